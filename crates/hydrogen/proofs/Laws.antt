@@ -1,0 +1,99 @@
+-- What other crates cite: what is true of H at p, what the floor's answer tells, and whole numbers against the fraction (t − s) / k.
+use mathlib.Core.Path.{_≡_}
+use mathlib.Core.Bool.{or-true}
+use mathlib.Core.Logic.{_↔_, _⊎_, inl, inr, ⊎-elim}
+use Prim.Native.Nat.{ℕ, _+_, _-_, _*_, _^_, _≤_, _<_}
+use native.Mathlib.Nat.{le-trans, lt-of-le-of-lt, pow-le-pow-right, zero-lt-suc, mul-comm, mul-one}
+use native.Mathlib.Decide.{decLt}
+use native.Mathlib.Omega.{arith}
+use lib.Dec.{ltb, lit<}
+use lib.IntN.{pos, subℕ}
+use borrow.Author.Tests.{lt-ltb, le-ltb}
+use Rattle.refusal.specs.Outcome.Outcome.{given, refused}
+use Rattle.refusal.specs.Numbers.{numberOf}
+use Rattle.refusal.specs.declared.Refusal.the-variants as refusal
+use Rattle.hydrogen.specs.Floors.{leastPh, greatestPh, power, floorAt, floorOf}
+use Rattle.hydrogen.specs.TrueHydrogen.{FractionLe, HydrogenAt}
+use Rattle.hydrogen.proofs.Powers.{lt-back}
+use Rattle.hydrogen.proofs.Root as root
+use Rattle.hydrogen.proofs.FloorTable.{floor-rule}
+use Rattle.hydrogen.proofs.Placing.{placing}
+use Rattle.hydrogen.proofs.Order.{ordered}
+
+-- at every p in range
+pub hydrogen-at : (p : ℕ) → leastPh ≤ p → p ≤ greatestPh → HydrogenAt p
+hydrogen-at p l u = record { rule = floor-rule p l u; placed = placing p (floorAt p) (floor-rule p l u); ordered = ordered p }
+
+-- the two bounds name the floor
+pub floor-is : (p h : ℕ) → h ^ 100 ≤ power p → power p < (h + 1) ^ 100 → floorAt p ≡ h
+floor-is p h low high = root.floor-is p h low high
+
+-- no floor is above 10^13
+pub floor-most : (p : ℕ) → leastPh ≤ p → p ≤ greatestPh → floorAt p ≤ 10000000000000
+unfolding power
+floor-most p l u = omega (arith, lt-back {a = floorAt p} {b = 10000000000001} below)
+  where
+    fewer : 1500 - p ≤ 1300
+    fewer = omega arith
+
+    below : floorAt p ^ 100 < 10000000000001 ^ 100
+    below = lt-of-le-of-lt (le-trans (floor-rule p l u .low) (pow-le-pow-right (zero-lt-suc 9) fewer)) (lit< tt)
+
+-- the floor's answer, by the range of p
+pub floor-in-range : (p : ℕ) → leastPh ≤ p → p ≤ greatestPh → floorOf p ≡ given (floorAt p)
+unfolding floorOf
+floor-in-range p l u = rw (le-ltb p leastPh l, le-ltb greatestPh p u)
+
+pub floor-out-of-range : (p : ℕ) → (p < leastPh) ⊎ (greatestPh < p) → floorOf p ≡ refused (numberOf refusal.Ph)
+unfolding floorOf
+floor-out-of-range p = ⊎-elim (λ a. rw (lt-ltb p leastPh a)) (λ b. rw (lt-ltb greatestPh p b, or-true (ltb p leastPh)))
+
+-- p is out of its range or in it
+range-of : (p : ℕ) → ((p < leastPh) ⊎ (greatestPh < p)) ⊎ ((leastPh ≤ p) × (p ≤ greatestPh))
+range-of p = go (decLt p leastPh) (decLt greatestPh p)
+  where
+    go : Dec (p < leastPh) → Dec (greatestPh < p) → ((p < leastPh) ⊎ (greatestPh < p)) ⊎ ((leastPh ≤ p) × (p ≤ greatestPh))
+    go (yes a) b = inl (inl a)
+    go (no a) (yes b) = inl (inr b)
+    go (no a) (no b) = inr (omega (arith, a), omega (arith, b))
+
+-- a floor was given: p is in its range, and it is the floor at p
+pub record FloorGiven (p h : ℕ) : Type 0 where
+  pub least : leastPh ≤ p
+  pub most : p ≤ greatestPh
+  pub is : h ≡ floorAt p
+
+pub floor-given : (p h : ℕ) → floorOf p ≡ given h → FloorGiven p h
+floor-given p h e =
+    ⊎-elim (λ o. let z : _≡_ {A = ℕ} 0 1 = cc (floor-out-of-range p o) in absurd (omega arith))
+    (λ i. record { least = i .0; most = i .1; is = cc (floor-in-range p (i .0) (i .1)) })
+    (range-of p)
+
+-- the floor was refused: p is out of its range, and the number is that of the pH
+pub record FloorRefused (p n : ℕ) : Type 0 where
+  pub out : (p < leastPh) ⊎ (greatestPh < p)
+  pub number : n ≡ numberOf refusal.Ph
+
+pub floor-refused : (p n : ℕ) → floorOf p ≡ refused n → FloorRefused p n
+floor-refused p n e =
+    ⊎-elim (λ o. record { out = o; number = cc (floor-out-of-range p o) })
+    (λ i. let z : _≡_ {A = ℕ} 0 1 = cc (floor-in-range p (i .0) (i .1)) in absurd (omega arith))
+    (range-of p)
+
+-- a whole number x against the bound (t − s) / k of the checks, which may be negative
+module _ (x k s t : ℕ) where
+  -- x is at most (t − s) / k exactly when k x + s is at most t
+  pub at-most-bound : FractionLe (pos x) 1 (subℕ t s) k ↔ (k * x + s ≤ t)
+  at-most-bound = go (decLt t s)
+    where
+      go : Dec (t < s) → FractionLe (pos x) 1 (subℕ t s) k ↔ (k * x + s ≤ t)
+      go (yes a) = rw (lt-ltb t s a) (λ e. absurd e, λ e. omega arith)
+      go (no a) = rw (le-ltb t s (omega (arith, a)), mul-one (t - s), mul-comm x k) (λ e. omega (arith, a), λ e. omega (arith, a))
+
+  -- x is at least (t − s) / k exactly when t is at most k x + s
+  pub at-least-bound : FractionLe (subℕ t s) k (pos x) 1 ↔ (t ≤ k * x + s)
+  at-least-bound = go (decLt t s)
+    where
+      go : Dec (t < s) → FractionLe (subℕ t s) k (pos x) 1 ↔ (t ≤ k * x + s)
+      go (yes a) = rw (lt-ltb t s a) (λ e. omega arith, λ e. tt)
+      go (no a) = rw (le-ltb t s (omega (arith, a)), mul-one (t - s), mul-comm x k) (λ e. omega (arith, a), λ e. omega (arith, a))

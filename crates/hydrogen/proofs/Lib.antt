@@ -1,0 +1,8 @@
+-- The laws behind this crate's contracts. Other crates cite `Laws`, and nothing else of it.
+mod Entries
+mod Powers
+mod Root
+mod FloorTable
+mod Placing
+mod Order
+pub mod Laws

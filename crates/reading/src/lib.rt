@@ -1,0 +1,132 @@
+// Readings of the analyser (document 01, 'A reading'): made from a value and its quantification limit, or from the
+// two words of a record; written back as words; and converted to an amount in whole µg/L.
+mod marks;
+mod ranges;
+mod rounding;
+
+use refusal::Refusal;
+ghost use mathlib.Core.Path.{_≡_};
+ghost use Rattle.reading.specs.Answers.{readingOutcome, wordsOutcome, amountOutcome};
+ghost use Rattle.reading.specs.Readings.{analysedOf, readingOf, wordsOf, WordLaws};
+ghost use Rattle.reading.specs.Amounts.{amountOf, AmountLaws};
+
+// What the analyser holds for a reading, in mg/L: the form that document 01 names, a struct with two f32 fields.
+pub struct Analysed {
+    pub value: f32,
+    pub limit: f32,
+}
+
+// A reading, in mg/L: missing, measured with its float, or below with its quantification limit (document 01's enum).
+pub enum Reading {
+    Missing,
+    Measured(f32),
+    Below(f32),
+}
+
+// A reading as a record holds it: a mark, and the bits of its float.
+pub struct Words {
+    pub mark: u32,
+    pub bits: u32,
+}
+
+// A mass concentration in whole µg/L, held apart from charge and conductivity by its type.
+pub struct Mass(pub u64);
+
+// A reading, or why there is none.
+pub enum ReadingResult {
+    Given(Reading),
+    Refused(Refusal),
+}
+
+// The words of a reading, or why there are none.
+pub enum WordsResult {
+    Given(Words),
+    Refused(Refusal),
+}
+
+// The amount of a reading: nothing where it is missing, else a mass, or why there is none.
+pub enum AmountResult {
+    Missing,
+    Given(Mass),
+    Refused(Refusal),
+}
+
+impl Analysed {
+    // Below where the value is under its limit, else measured. Both are tested always.
+    pub fn to_reading(self) -> ReadingResult
+        ensures { λ r. ⌜ readingOutcome r ≡ analysedOf (self .value) (self .limit) ⌝ }
+    {
+        if !ranges::is_value(self.value) {
+            return ReadingResult::Refused(Refusal::Reading);
+        }
+        if !ranges::is_limit(self.limit) {
+            return ReadingResult::Refused(Refusal::Reading);
+        }
+        if self.value < self.limit {
+            return ReadingResult::Given(Reading::Below(self.limit));
+        }
+        ReadingResult::Given(Reading::Measured(self.value))
+    }
+}
+
+impl Reading {
+    // The reading that two words of a record hold.
+    pub fn from_words(mark: u32, bits: u32) -> ReadingResult
+        ensures answer { λ r. ⌜ readingOutcome r ≡ readingOf mark bits ⌝ }
+        ensures laws { λ r. ⌜ WordLaws ⌝ }
+    {
+        if mark == marks::MISSING {
+            return marks::missing(bits);
+        }
+        if mark == marks::MEASURED {
+            return marks::measured(bits);
+        }
+        if mark == marks::BELOW {
+            return marks::below(bits);
+        }
+        ReadingResult::Refused(Refusal::Reading)
+    }
+
+    // The two words of a reading: what `from_words` reads as this reading.
+    pub fn words(self) -> WordsResult
+        ensures answer { λ r. ⌜ wordsOutcome r ≡ wordsOf self ⌝ }
+        ensures laws { λ r. ⌜ WordLaws ⌝ }
+    {
+        match self {
+            Reading::Missing => WordsResult::Given(Words {
+                mark: marks::MISSING,
+                bits: 0,
+            }),
+            Reading::Measured(x) => {
+                if !ranges::is_value(x) {
+                    return WordsResult::Refused(Refusal::Reading);
+                }
+                WordsResult::Given(Words {
+                    mark: marks::MEASURED,
+                    bits: f32::to_bits(x),
+                })
+            }
+            Reading::Below(x) => {
+                if !ranges::is_limit(x) {
+                    return WordsResult::Refused(Refusal::Reading);
+                }
+                WordsResult::Given(Words {
+                    mark: marks::BELOW,
+                    bits: f32::to_bits(x),
+                })
+            }
+        }
+    }
+
+    // The amount of a reading in whole µg/L; of one below its limit, that of half the limit.
+    pub fn amount(self) -> AmountResult
+        ensures answer { λ r. ⌜ amountOutcome r ≡ amountOf self ⌝ }
+        ensures laws { λ r. ⌜ AmountLaws ⌝ }
+    {
+        match self {
+            Reading::Missing => AmountResult::Missing,
+            Reading::Measured(x) => rounding::amount_of_value(x),
+            Reading::Below(x) => rounding::amount_of_half(x),
+        }
+    }
+}

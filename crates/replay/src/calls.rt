@@ -1,0 +1,17 @@
+// The number of each call. A call prints its line and says true, or prints nothing and says false where the words are
+// not what it takes.
+use crate::floors;
+use crate::readings;
+use crate::refusals;
+
+pub fn answer(call: u32, words: &[u32]) -> bool {
+    match call {
+        1 => floors::floor_at(words),
+        2 => readings::from_words(words),
+        3 => readings::to_reading(words),
+        4 => readings::amount(words),
+        5 => readings::words(words),
+        6 => refusals::number(words),
+        _ => false,
+    }
+}
