@@ -1,9 +1,9 @@
--- What other crates cite: what is true of H at p, what the floor's answer tells, and whole numbers against the fraction (t − s) / k.
-use mathlib.Core.Path.{_≡_}
+-- What other crates cite: what is true of H at p, what the floor's answer tells, and fractions against the bound (t − s) / k.
+use mathlib.Core.Path.{_≡_, ap}
 use mathlib.Core.Bool.{or-true}
 use mathlib.Core.Logic.{_↔_, _⊎_, inl, inr, ⊎-elim}
 use Prim.Native.Nat.{ℕ, _+_, _-_, _*_, _^_, _≤_, _<_}
-use native.Mathlib.Nat.{le-trans, lt-of-le-of-lt, pow-le-pow-right, zero-lt-suc, mul-comm, mul-one}
+use native.Mathlib.Nat.{le-trans, lt-of-le-of-lt, pow-le-pow-right, zero-lt-suc, sub-add-cancel, mul-le-mul-left}
 use native.Mathlib.Decide.{decLt}
 use native.Mathlib.Omega.{arith}
 use lib.Dec.{ltb, lit<}
@@ -80,20 +80,28 @@ floor-refused p n e =
     (λ i. let z : _≡_ {A = ℕ} 0 1 = cc (floor-in-range p (i .0) (i .1)) in absurd (omega arith))
     (range-of p)
 
--- a whole number x against the bound (t − s) / k of the checks, which may be negative
-module _ (x k s t : ℕ) where
-  -- x is at most (t − s) / k exactly when k x + s is at most t
-  pub at-most-bound : FractionLe (pos x) 1 (subℕ t s) k ↔ (k * x + s ≤ t)
+-- a difference, x times
+pub difference-times : (t s x : ℕ) → s ≤ t → (t - s) * x + s * x ≡ t * x
+difference-times t s x h = omega (arith, ap (λ (u : ℕ). u * x) (sub-add-cancel h))
+
+-- a fraction n / d against the bound (t − s) / k of a check, which may be negative
+module _ (n d k s t : ℕ) (divides : 0 < d) where
+  -- n / d is at most (t − s) / k exactly when k n + s d is at most t d
+  pub at-most-bound : FractionLe (pos n) d (subℕ t s) k ↔ (k * n + s * d ≤ t * d)
   at-most-bound = go (decLt t s)
     where
-      go : Dec (t < s) → FractionLe (pos x) 1 (subℕ t s) k ↔ (k * x + s ≤ t)
-      go (yes a) = rw (lt-ltb t s a) (λ e. absurd e, λ e. omega arith)
-      go (no a) = rw (le-ltb t s (omega (arith, a)), mul-one (t - s), mul-comm x k) (λ e. omega (arith, a), λ e. omega (arith, a))
+      go : Dec (t < s) → FractionLe (pos n) d (subℕ t s) k ↔ (k * n + s * d ≤ t * d)
+      go (yes a) = rw (lt-ltb t s a) (λ e. absurd e, λ e. omega (arith, mul-le-mul-left d a))
+      go (no a) =
+          let b : s ≤ t = omega (arith, a) in
+          rw (le-ltb t s b) (λ e. omega (arith, difference-times t s d b), λ e. omega (arith, difference-times t s d b))
 
-  -- x is at least (t − s) / k exactly when t is at most k x + s
-  pub at-least-bound : FractionLe (subℕ t s) k (pos x) 1 ↔ (t ≤ k * x + s)
+  -- n / d is at least (t − s) / k exactly when t d is at most k n + s d
+  pub at-least-bound : FractionLe (subℕ t s) k (pos n) d ↔ (t * d ≤ k * n + s * d)
   at-least-bound = go (decLt t s)
     where
-      go : Dec (t < s) → FractionLe (subℕ t s) k (pos x) 1 ↔ (t ≤ k * x + s)
-      go (yes a) = rw (lt-ltb t s a) (λ e. omega arith, λ e. tt)
-      go (no a) = rw (le-ltb t s (omega (arith, a)), mul-one (t - s), mul-comm x k) (λ e. omega (arith, a), λ e. omega (arith, a))
+      go : Dec (t < s) → FractionLe (subℕ t s) k (pos n) d ↔ (t * d ≤ k * n + s * d)
+      go (yes a) = rw (lt-ltb t s a) (λ e. omega (arith, mul-le-mul-left d a), λ e. tt)
+      go (no a) =
+          let b : s ≤ t = omega (arith, a) in
+          rw (le-ltb t s b) (λ e. omega (arith, difference-times t s d b), λ e. omega (arith, difference-times t s d b))

@@ -1,0 +1,62 @@
+-- For the crates above: what a judgement and an agreement tell of the records they were given for.
+use mathlib.Core.Path.{_≡_, sym, _∙_}
+use mathlib.Core.Bool.{Bool}
+use mathlib.Core.List.{List}
+use Prim.Native.Nat.{ℕ, _≤_}
+use native.Mathlib.Omega.{arith}
+use lib.Dec.{lit≤}
+use lib.ListN.{length}
+use Rattle.refusal.specs.Outcome.Outcome.{given}
+use Rattle.judge.specs.declared.Verdict.{Verdict}
+use Rattle.judge.specs.declared.Verdict.the-variants as verdict
+use Rattle.judge.specs.Record.{recordWords, accepted}
+use Rattle.judge.specs.Verdicts.{verdictNumber}
+use Rattle.judge.specs.Judgements.{Four, verdictsOf, judgementOf}
+use Rattle.judge.specs.Agreement.{agreementOf, agrees}
+use Rattle.judge.specs.Truth.{Truth}
+use Rattle.judge.proofs.AcceptedLaws.{Valid, accepted-given, valid-accepted}
+use Rattle.judge.proofs.JudgeLaws as judging
+
+module _ (s : List ℕ) (v : Four) (judged : judgementOf s ≡ given v) where
+  -- it was accepted
+  pub judged-valid : Valid s
+  unfolding judgementOf
+  judged-valid = accepted-given s (given (verdictsOf s)) v judged .0
+
+  -- it has 25 words
+  pub judged-length : length s ≡ recordWords
+  judged-length = judged-valid .words
+
+  -- these are its verdicts
+  pub judged-is : v ≡ verdictsOf s
+  unfolding judgementOf
+  judged-is = cc (accepted-given s (given (verdictsOf s)) v judged .1)
+
+  -- and they are true at H
+  pub judged-truth : Truth s v
+  judged-truth = judging.told s v judged
+
+-- an accepted record is judged
+pub valid-judged : (s : List ℕ) → Valid s → judgementOf s ≡ given (verdictsOf s)
+unfolding judgementOf
+valid-judged s valid = valid-accepted s (given (verdictsOf s)) valid
+
+-- an agreement is told of accepted records only
+pub compared-valid : (s t : List ℕ) (b : Bool) → agreementOf s t ≡ given b → Valid s × Valid t × (b ≡ agrees s t)
+unfolding agreementOf
+compared-valid s t b e =
+    let first = accepted-given s (accepted t (given (agrees s t))) b e in
+    let second = accepted-given t (given (agrees s t)) b (first .1) in
+    (first .0, second .0, cc (second .1))
+
+pub valid-compared : (s t : List ℕ) → Valid s → Valid t → agreementOf s t ≡ given (agrees s t)
+unfolding agreementOf
+valid-compared s t v w = valid-accepted s (accepted t (given (agrees s t))) v ∙ valid-accepted t (given (agrees s t)) w
+
+-- the greatest verdict number
+pub verdict-most : (v : Verdict) → verdictNumber v ≤ 4
+verdict-most verdict.NotApplicable = lit≤ tt
+verdict-most verdict.Within = lit≤ tt
+verdict-most verdict.Outside = lit≤ tt
+verdict-most verdict.Undecided = lit≤ tt
+verdict-most verdict.Missing = lit≤ tt

@@ -1,0 +1,28 @@
+-- The laws behind this crate's contracts. Other crates cite `AcceptedLaws` and `Laws`, and nothing else of it.
+mod AllBelow
+mod Testing
+mod Rows
+mod TestedLaws
+pub mod AcceptedLaws
+mod Columns
+mod SumLaws
+mod IonLaws
+mod Crossing
+mod Mixing
+mod Deciding
+mod Judging
+mod RoomLaws
+mod NearCorners
+mod PartLaws
+mod CornerLaws
+mod BoundLaws
+mod AtHydrogenLaws
+mod BalanceLaws
+mod ConductivityLaws
+mod PointLaws
+mod Applying
+mod RatioProofs
+mod TruthProofs
+mod CheckInputs
+mod JudgeLaws
+pub mod Laws

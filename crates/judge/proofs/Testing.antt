@@ -1,0 +1,32 @@
+-- Tests: what the code's `if !test { return refusal }` leaves, and what the test of a range says.
+use mathlib.Core.Path.{_≡_, refl, sym, _∙_}
+use mathlib.Core.Bool.{Bool, true, false, not, _&&_, and-false, true≢false}
+use mathlib.Core.Logic.{_⊎_, ⊎-elim}
+use Prim.Native.Nat.{ℕ, _≤_, _<_}
+use lib.Dec.{leb}
+use borrow.Author.Tests.{not-true, not-false, leb-true, le-leb, lt-leb}
+use Rattle.judge.specs.Record.{between}
+
+-- the code's answer r is the test t
+module _ {r t : Bool} (e : r ≡ t) where
+  pub failed : not r ≡ true → t ≡ false
+  failed n = sym e ∙ not-true r n
+
+  pub passed : not r ≡ false → t ≡ true
+  passed n = sym e ∙ not-false r n
+
+pub both : (a b : Bool) → a && b ≡ true → (a ≡ true) × (b ≡ true)
+both true b e = (refl, e)
+both false b e = absurd (true≢false (sym e))
+
+module _ (least most x : ℕ) where
+  pub in-between : between least most x ≡ true → (least ≤ x) × (x ≤ most)
+  in-between e =
+      let b = both (leb least x) (leb x most) e in
+      (leb-true least x (b .0), leb-true x most (b .1))
+
+  pub is-between : (least ≤ x) × (x ≤ most) → between least most x ≡ true
+  is-between h = rw (le-leb least x (h .0), le-leb x most (h .1))
+
+  pub is-outside : (x < least) ⊎ (most < x) → between least most x ≡ false
+  is-outside = ⊎-elim (λ a. rw (lt-leb least x a)) (λ b. rw (lt-leb x most b, and-false (leb least x)))

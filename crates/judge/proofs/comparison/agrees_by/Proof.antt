@@ -1,0 +1,37 @@
+-- By which of the two is larger.
+use mathlib.Core.Path.{_≡_}
+use Prim.Native.Nat.{_-_, max}
+use native.Mathlib.Omega.{arith}
+use Rattle.judge.specs.IonBalance.{apart}
+use Rattle.judge.specs.Agreement.{agreesBy}
+use borrow.Author.Needs.{needs}
+use Rattle.judge.proofs.comparison.agrees_by.Statement.{statement}
+use Rattle.judge.proofs.comparison.agrees_by.Tie as tie
+
+sub-result : tie.Need-sub-result
+sub-result c = search needs
+
+mul-result : tie.Need-mul-result
+mul-result c = search needs
+
+returns : tie.Need-returns
+unfolding agreesBy
+returns c =
+    let a = c .before .args in
+    let e : apart (a .x) (a .y) ≡ a .y - a .x = omega arith in
+    let m : max (a .x) (a .y) ≡ a .y = omega arith in
+    rw (e, m)
+
+mul-result-2 : tie.Need-mul-result-2
+mul-result-2 c = search needs
+
+returns-2 : tie.Need-returns-2
+unfolding agreesBy
+returns-2 c =
+    let a = c .before .args in
+    let e : apart (a .x) (a .y) ≡ a .x - a .y = omega arith in
+    let m : max (a .x) (a .y) ≡ a .x = omega arith in
+    rw (e, m)
+
+pub agrees-by-spec : {M : Type 1} → statement M
+agrees-by-spec = tie.close (tie.spec sub-result mul-result returns mul-result-2 returns-2)

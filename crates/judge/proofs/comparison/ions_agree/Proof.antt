@@ -1,0 +1,72 @@
+-- The loop has seen only ions that agree; it is left at the first that does not.
+use mathlib.Core.Path.{_≡_, sym}
+use mathlib.Core.Bool.{true}
+use Prim.Native.Nat.{_-_, _≤_}
+use native.Mathlib.Omega.{arith}
+use Rattle.judge.specs.Record.{allBelow}
+use Rattle.judge.specs.Ions.{ions}
+use Rattle.judge.specs.Agreement.{ionAgrees}
+use Rattle.judge.proofs.AllBelow.{all-none, all-more, all-fails}
+use Rattle.judge.proofs.Testing.{failed, passed}
+use borrow.Author.Needs.{needs}
+use Rattle.judge.proofs.comparison.ions_agree.Statement.{statement}
+use Rattle.judge.proofs.comparison.ions_agree.Tie as tie
+
+abbrev Inv-loop : tie.InvT-loop
+Inv-loop a b i₀ i = (i ≤ ions) × (allBelow (ionAgrees a b) i ≡ true)
+
+abbrev μ-loop : tie.MeasureT-loop
+μ-loop a b i₀ i = ions - i
+
+loop-holds : tie.Need-loop-holds Inv-loop μ-loop
+loop-holds c = (search needs, all-none _)
+
+reading-at-requires : tie.Need-reading-at-requires Inv-loop μ-loop
+reading-at-requires c κs = search needs
+
+reading-at-requires-2 : tie.Need-reading-at-requires-2 Inv-loop μ-loop
+reading-at-requires-2 c κs = search needs
+
+readings-agree-requires : tie.Need-readings-agree-requires Inv-loop μ-loop
+readings-agree-requires c κs = search needs
+
+returns : tie.Need-returns Inv-loop μ-loop
+returns c =
+    let second = c .before .before in
+    let first = second .before in
+    let turn = first .before in
+    let same = rw (first .reading-at .ensures, second .reading-at2 .ensures) at (c .before .readings-agree .ensures) in
+    sym (all-fails _ (turn .before .loop .i) ions (turn .loop-test .taken) (failed same (c .if1 .taken)))
+
+add-i : tie.Need-add-i Inv-loop μ-loop
+add-i c = search needs
+
+loop-less : tie.Need-loop-less Inv-loop μ-loop
+loop-less c = search needs
+
+loop-again : tie.Need-loop-again Inv-loop μ-loop
+loop-again c =
+    let second = c .before .before in
+    let first = second .before in
+    let at = first .before .before in
+    let same = rw (first .reading-at .ensures, second .reading-at2 .ensures) at (c .before .readings-agree .ensures) in
+    (search needs, all-more _ (at .loop .i) (at .loop .inv .1) (passed same (c .if1 .left)))
+
+returns-2 : tie.Need-returns-2 Inv-loop μ-loop
+returns-2 c = let e : c .before .loop .i ≡ ions = omega arith in sym (rw e at (c .before .loop .inv .1))
+
+pub ions-agree-spec : {M : Type 1} → statement M
+ions-agree-spec =
+    tie.close
+    (tie.spec
+    Inv-loop
+    μ-loop
+    loop-holds
+    reading-at-requires
+    reading-at-requires-2
+    readings-agree-requires
+    returns
+    add-i
+    loop-less
+    loop-again
+    returns-2)

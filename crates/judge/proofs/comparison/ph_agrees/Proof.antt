@@ -1,0 +1,29 @@
+-- By which of the two is larger.
+use mathlib.Core.Path.{_≡_}
+use Prim.Native.Nat.{_-_}
+use native.Mathlib.Omega.{arith}
+use Rattle.judge.specs.IonBalance.{apart}
+use Rattle.judge.specs.Agreement.{phAgrees}
+use borrow.Author.Needs.{needs}
+use Rattle.judge.proofs.comparison.ph_agrees.Statement.{statement}
+use Rattle.judge.proofs.comparison.ph_agrees.Tie as tie
+
+sub-result : tie.Need-sub-result
+sub-result c = search needs
+
+returns : tie.Need-returns
+unfolding phAgrees
+returns c =
+    let a = c .before .args in
+    let e : apart (a .p) (a .q) ≡ a .q - a .p = omega arith in
+    rw e
+
+returns-2 : tie.Need-returns-2
+unfolding phAgrees
+returns-2 c =
+    let a = c .before .args in
+    let e : apart (a .p) (a .q) ≡ a .p - a .q = omega arith in
+    rw e
+
+pub ph-agrees-spec : {M : Type 1} → statement M
+ph-agrees-spec = tie.close (tie.spec sub-result returns returns-2)

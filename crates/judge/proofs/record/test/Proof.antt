@@ -1,0 +1,111 @@
+-- Each return is what the definition picks by the tests that led there; the answer of the floor is the test of the pH.
+use mathlib.Core.Path.{sym, ap, _∙_}
+use borrow.Author.Tests.{eq-eqb, ne-eqb}
+use Rattle.hydrogen.specs.Answers.{floorOutcome}
+use Rattle.hydrogen.specs.Floors.{leastPh, greatestPh}
+use Rattle.hydrogen.proofs.Laws.{floor-given, floor-refused}
+use Rattle.judge.specs.Record.{accepted}
+use Rattle.judge.proofs.Testing.{failed, passed, is-between, is-outside}
+use borrow.Author.Needs.{needs}
+use Rattle.judge.proofs.record.test.Statement.{statement}
+use Rattle.judge.proofs.record.test.Tie as tie
+
+returns : tie.Need-returns
+unfolding accepted
+returns c = simp (ne-eqb _ _ (c .if1 .taken))
+
+shared-slice-read-in-range : tie.Need-shared-slice-read-in-range
+shared-slice-read-in-range c = search needs
+
+in-range-requires : tie.Need-in-range-requires
+in-range-requires c κs = search needs
+
+returns-2 : tie.Need-returns-2
+unfolding accepted
+returns-2 c =
+    let words = c .before .before .before in
+    simp (eq-eqb _ _ (words .if1 .left), failed (c .before .in-range .ensures) (c .if2 .taken))
+
+shared-slice-read-in-range-2 : tie.Need-shared-slice-read-in-range-2
+shared-slice-read-in-range-2 c = search needs
+
+in-range-requires-2 : tie.Need-in-range-requires-2
+in-range-requires-2 c κs = search needs
+
+returns-3 : tie.Need-returns-3
+unfolding accepted
+returns-3 c =
+    let number = c .before .before .before in
+    let words = number .before .before .before in
+    simp (
+      eq-eqb _ _ (words .if1 .left),
+      passed (number .before .in-range .ensures) (number .if2 .left),
+      failed (c .before .in-range2 .ensures) (c .if3 .taken),
+    )
+
+shared-slice-read-floor-at : tie.Need-shared-slice-read-floor-at
+shared-slice-read-floor-at c = search needs
+
+floor-at-requires : tie.Need-floor-at-requires
+floor-at-requires c κs = search needs
+
+enum-known-floor : tie.Need-enum-known-floor
+enum-known-floor c = search needs
+
+test-rest-requires : tie.Need-test-rest-requires
+test-rest-requires c κs = search needs
+
+enum-known-why : tie.Need-enum-known-why
+enum-known-why c = search needs
+
+returns-4 : tie.Need-returns-4
+unfolding accepted
+returns-4 c =
+    let ph = c .before .before .before .before in
+    let f = floor-given _ _ (sym (ph .floor-at .ensures .0) ∙ ap floorOutcome (c .before .before .floor .given .1)) in
+    let kind = ph .before .before in
+    let number = kind .before .before .before in
+    let words = number .before .before .before in
+    simp (
+      eq-eqb _ _ (words .if1 .left),
+      passed (number .before .in-range .ensures) (number .if2 .left),
+      passed (kind .before .in-range2 .ensures) (kind .if3 .left),
+      is-between leastPh greatestPh _ (f .least, f .most),
+      sym (f .is),
+    )
+    (c .test-rest .ensures)
+
+returns-5 : tie.Need-returns-5
+unfolding accepted
+returns-5 c =
+    let ph = c .before .before .before in
+    let f = floor-refused _ _ (sym (ph .floor-at .ensures .0) ∙ ap floorOutcome (c .before .why .given .1)) in
+    let kind = ph .before .before in
+    let number = kind .before .before .before in
+    let words = number .before .before .before in
+    simp (
+      eq-eqb _ _ (words .if1 .left),
+      passed (number .before .in-range .ensures) (number .if2 .left),
+      passed (kind .before .in-range2 .ensures) (kind .if3 .left),
+      is-outside leastPh greatestPh _ (f .out),
+      f .number,
+    )
+
+pub test-spec : {M : Type 1} → statement M
+test-spec =
+    tie.close
+    (tie.spec
+    returns
+    shared-slice-read-in-range
+    in-range-requires
+    returns-2
+    shared-slice-read-in-range-2
+    in-range-requires-2
+    returns-3
+    shared-slice-read-floor-at
+    floor-at-requires
+    enum-known-floor
+    test-rest-requires
+    enum-known-why
+    returns-4
+    returns-5)

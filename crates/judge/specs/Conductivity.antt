@@ -1,0 +1,68 @@
+-- Document 01, 'Conductivity'.
+use mathlib.Core.Bool.{true, cond}
+use mathlib.Core.List.{List}
+use Prim.Native.Nat.{ℕ, _+_, _-_, _*_, _^_, _≤_}
+use lib.Dec.{leb}
+use lib.IntN.{subℕ}
+use Rattle.judge.specs.declared.window.Window.{Window}
+use Rattle.judge.specs.Record.{conductivityOf, alkalinityOf, readings}
+use Rattle.judge.specs.Ions.{conducted, hydrogenConductance, alkalinityCharge, alkalinityConductance, sum}
+use Rattle.judge.specs.Choices.{Choice}
+use Rattle.judge.specs.Verdicts.{applied}
+use Rattle.judge.specs.AtHydrogen.{Bounds}
+use Rattle.judge.specs.Corners.{Check, passesOf}
+use Rattle.judge.specs.IonBalance.{apart}
+use Rattle.judge.specs.Ranges.{massAt, rangesOf, ionsKnown}
+
+-- 'M is 30 up to 10.0, 20 up to 20.0, 10 above', by tenths of µS/cm
+unfoldable pub conductivityLimit : ℕ → ℕ
+conductivityLimit measured = cond (leb measured 100) 30 (cond (leb measured 200) 20 10)
+
+-- 'CM the measured value', in 10^−13 µS/cm
+abbrev pub measuredOf : ℕ → ℕ
+measuredOf measured = measured * 10 ^ 12
+
+-- 'CE is the sum over all ten rows': alkalinity t, and of a choice, divisor times
+abbrev pub alkalinityConducts : ℕ → ℕ
+alkalinityConducts t = alkalinityConductance * alkalinityCharge t
+
+abbrev pub calculated : ℕ → Choice → ℕ
+calculated t c = hydrogenConductance * c .hydrogen + (alkalinityConducts t * c .divisor + sum (λ i. conducted i * c .amount i) readings)
+
+-- '100 times the difference of CE and CM, its sign dropped, is at most M × CM'
+pub record Conducting (M t CM : ℕ) (c : Choice) : Type 0 where
+  pub holds : 100 * apart (calculated t c) (CM * c .divisor) ≤ M * (CM * c .divisor)
+
+-- the same as a window of the ratio CE / CM
+abbrev pub conductivityWindow : ℕ → Window
+conductivityWindow M = record { low = record { numerator = 100 - M; denominator = 100 }; high = record { numerator = 100 + M; denominator = 100 } }
+
+abbrev pub conductivityCheck : ℕ → ℕ → ℕ → Check
+conductivityCheck M t CM =
+    record {
+      hydrogen = hydrogenConductance;
+      first = record { fixed = alkalinityConducts t; weight = conducted };
+      second = record { fixed = CM; weight = λ i. 0 };
+      window = conductivityWindow M;
+    }
+
+-- 'all kinds'; 'needs the eight ions'
+abbrev pub conductivityVerdict : List ℕ → ℕ
+conductivityVerdict s =
+    applied true (ionsKnown s) (passesOf (conductivityCheck (conductivityLimit (conductivityOf s)) (alkalinityOf s) (measuredOf (conductivityOf s))) (rangesOf s))
+
+-- a greatest and a least fraction for H, with E what all but hydrogen conducts:
+-- ((100 + M) CM − 100 E) / (100 × 3500) and ((100 − M) CM − 100 E) / (100 × 3500)
+abbrev pub conductivityBounds : ℕ → ℕ → ℕ → Bounds
+conductivityBounds M E CM =
+    record {
+      most = subℕ ((100 + M) * CM) (100 * E);
+      mostPer = 100 * hydrogenConductance;
+      least = subℕ ((100 - M) * CM) (100 * E);
+      leastPer = 100 * hydrogenConductance;
+    }
+
+abbrev pub conductivityBoundsOf : List ℕ → Bounds
+conductivityBoundsOf s =
+    conductivityBounds (conductivityLimit (conductivityOf s))
+    (alkalinityConducts (alkalinityOf s) + sum (λ i. conducted i * massAt s i) readings) (measuredOf (conductivityOf s))

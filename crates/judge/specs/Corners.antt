@@ -1,0 +1,53 @@
+-- The verdict by the corners of the ranges: the form that the code follows. `proofs/` show that it is the verdict by every choice.
+-- A check asks that the ratio of two sums, first / second, is in a window: from low to high.
+use mathlib.Core.Bool.{cond}
+use Prim.Native.Nat.{ℕ, _+_, _*_, _≤_}
+use lib.Dec.{ltb}
+use Rattle.judge.specs.declared.window.Window.{Window}
+use Rattle.judge.specs.Record.{readings}
+use Rattle.judge.specs.Ions.{sum}
+use Rattle.judge.specs.Choices.{Ranges, Choice, gap}
+
+-- a sum: what is fixed, and the weight of each reading's amount
+pub record Part : Type 0 where
+  pub fixed : ℕ
+  pub weight : ℕ → ℕ
+
+-- of a choice, divisor times; of whole amounts
+abbrev pub partOf : Part → Choice → ℕ
+partOf p c = p .fixed * c .divisor + sum (λ i. p .weight i * c .amount i) readings
+
+abbrev pub partAt : Part → (ℕ → ℕ) → ℕ
+partAt p a = p .fixed + sum (λ i. p .weight i * a i) readings
+
+pub record Check : Type 0 where
+  -- what a u of hydrogen adds to the first sum
+  pub hydrogen : ℕ
+  pub first : Part
+  pub second : Part
+  pub window : Window
+
+-- the first sum of a choice with its hydrogen, divisor times
+abbrev pub firstOf : Check → Choice → ℕ
+firstOf k c = k .hydrogen * c .hydrogen + partOf (k .first) c
+
+-- the ratio of a choice is in the window
+pub record Passes (k : Check) (c : Choice) : Type 0 where
+  pub high : k .window .high .denominator * firstOf k c ≤ k .window .high .numerator * partOf (k .second) c
+  pub low : k .window .low .numerator * partOf (k .second) c ≤ k .window .low .denominator * firstOf k c
+
+-- first sums from x₀ to x₁, second sums from y₀ to y₁. With e above 0 the ends of the first are not reached.
+-- 2 where even the best corner fails one side of the window, 3 where the worst corner fails one, else 1
+unfoldable pub decided : Window → ℕ → ℕ → ℕ → ℕ → ℕ → ℕ
+decided w e x₀ x₁ y₀ y₁ =
+    cond (ltb (w .high .numerator * y₁) (w .high .denominator * x₀ + e)) 2
+    (cond (ltb (w .low .denominator * x₁) (w .low .numerator * y₀ + e)) 2
+    (cond (ltb (w .high .numerator * y₀) (w .high .denominator * x₁)) 3
+    (cond (ltb (w .low .denominator * x₀) (w .low .numerator * y₁)) 3
+    1)))
+
+abbrev pub passesOf : Check → Ranges → ℕ
+passesOf k r =
+    decided (k .window) (gap (r .whole))
+    (k .hydrogen * r .floor + partAt (k .first) (r .least)) (k .hydrogen * (r .floor + gap (r .whole)) + partAt (k .first) (r .greatest))
+    (partAt (k .second) (r .least)) (partAt (k .second) (r .greatest))

@@ -1,0 +1,73 @@
+-- Document 01, 'Ion balance'.
+use mathlib.Core.Bool.{Bool, cond, _&&_, _||_}
+use mathlib.Core.List.{List}
+use Prim.Native.Nat.{ℕ, _+_, _-_, _*_, _≤_}
+use lib.Dec.{leb, ltb, eqb}
+use lib.IntN.{subℕ}
+use Rattle.judge.specs.declared.window.Window.{Window}
+use Rattle.judge.specs.Record.{kindOf, conductivityOf, alkalinityOf, readings, readingAt, present}
+use Rattle.judge.specs.Ions.{organicCarbon, cationCharge, anionCharge, alkalinityCharge, sum}
+use Rattle.judge.specs.Choices.{Choice}
+use Rattle.judge.specs.Verdicts.{applied}
+use Rattle.judge.specs.AtHydrogen.{Bounds}
+use Rattle.judge.specs.Corners.{Check, passesOf}
+use Rattle.judge.specs.Ranges.{massAt, rangesOf, ionsKnown}
+
+-- 'kinds 1 and 2, and kind 5 with DOC present and below 5,000 µg/L'
+unfoldable pub balanceApplies : ℕ → Bool → ℕ → Bool
+balanceApplies kind carbonPresent carbon = (eqb kind 1 || eqb kind 2) || (eqb kind 5 && (carbonPresent && ltb carbon 5_000))
+
+abbrev pub balanceAppliesTo : List ℕ → Bool
+balanceAppliesTo s = balanceApplies (kindOf s) (present (readingAt s organicCarbon)) (massAt s organicCarbon)
+
+-- 'L is 20 up to a measured 20.0 µS/cm, above that 10', by tenths of µS/cm
+unfoldable pub balanceLimit : ℕ → ℕ
+balanceLimit measured = cond (leb measured 200) 20 10
+
+-- the difference, 'its sign dropped'
+abbrev pub apart : ℕ → ℕ → ℕ
+apart x y = (x - y) + (y - x)
+
+-- 'Cat is H plus the next five rows, An the last four', of a choice and divisor times, with alkalinity t
+abbrev pub cations : Choice → ℕ
+cations c = c .hydrogen + sum (λ i. cationCharge i * c .amount i) readings
+
+abbrev pub anions : ℕ → Choice → ℕ
+anions t c = alkalinityCharge t * c .divisor + sum (λ i. anionCharge i * c .amount i) readings
+
+-- '200 times the difference of Cat and An, its sign dropped, is at most L × (Cat + An)'
+pub record Balanced (L t : ℕ) (c : Choice) : Type 0 where
+  pub holds : 200 * apart (cations c) (anions t c) ≤ L * (cations c + anions t c)
+
+-- the same as a window of the ratio Cat / An
+abbrev pub balanceWindow : ℕ → Window
+balanceWindow L = record { low = record { numerator = 200 - L; denominator = 200 + L }; high = record { numerator = 200 + L; denominator = 200 - L } }
+
+abbrev pub balanceCheck : ℕ → ℕ → Check
+balanceCheck L t =
+    record {
+      hydrogen = 1;
+      first = record { fixed = 0; weight = cationCharge };
+      second = record { fixed = alkalinityCharge t; weight = anionCharge };
+      window = balanceWindow L;
+    }
+
+-- 'needs the eight ions'
+abbrev pub ionBalanceOf : List ℕ → ℕ
+ionBalanceOf s = applied (balanceAppliesTo s) (ionsKnown s) (passesOf (balanceCheck (balanceLimit (conductivityOf s)) (alkalinityOf s)) (rangesOf s))
+
+-- 'the inequality sets a greatest and a least fraction for H', C the cations but hydrogen and A the anions, in u:
+-- ((200 + L) A − (200 − L) C) / (200 − L) and ((200 − L) A − (200 + L) C) / (200 + L)
+abbrev pub balanceBounds : ℕ → ℕ → ℕ → Bounds
+balanceBounds L C A =
+    record {
+      most = subℕ ((200 + L) * A) ((200 - L) * C);
+      mostPer = 200 - L;
+      least = subℕ ((200 - L) * A) ((200 + L) * C);
+      leastPer = 200 + L;
+    }
+
+abbrev pub balanceBoundsOf : List ℕ → Bounds
+balanceBoundsOf s =
+    balanceBounds (balanceLimit (conductivityOf s))
+    (sum (λ i. cationCharge i * massAt s i) readings) (alkalinityCharge (alkalinityOf s) + sum (λ i. anionCharge i * massAt s i) readings)

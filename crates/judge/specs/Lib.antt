@@ -1,0 +1,17 @@
+pub mod Record
+pub mod Tested
+pub mod Ions
+pub mod Choices
+pub mod Verdicts
+pub mod AtHydrogen
+pub mod Corners
+pub mod Room
+pub mod Ranges
+pub mod Sums
+pub mod Prepared
+pub mod IonBalance
+pub mod Conductivity
+pub mod Ratios
+pub mod Judgements
+pub mod Truth
+pub mod Agreement

@@ -1,0 +1,54 @@
+-- Document 01, 'Na/Cl' and 'Nitrogen': two checks in which hydrogen plays no part.
+use mathlib.Core.Bool.{Bool, cond}
+use mathlib.Core.List.{List}
+use Prim.Native.Nat.{ℕ, _+_, _*_}
+use lib.Dec.{leb, eqb}
+use Rattle.judge.specs.declared.window.Window.{Window}
+use Rattle.judge.specs.Record.{kindOf, readingAt, present}
+use Rattle.judge.specs.Ions.{ammonium, sodium, nitrate, chloride, totalNitrogen, cationCharge, anionCharge}
+use Rattle.judge.specs.Corners.{decided}
+use Rattle.judge.specs.Ranges.{massAt}
+
+-- 'the ratio of charges is from 0.5 to 1.5, ends included'
+abbrev pub sodiumChlorideWindow : Window
+sodiumChlorideWindow = record { low = record { numerator = 1; denominator = 2 }; high = record { numerator = 3; denominator = 2 } }
+
+-- 'kinds 1 to 4, unless Cl is present with amount 0; Cl missing gives 4'; 'needs both'. By the charges of sodium and chloride
+abbrev pub sodiumChlorideBy : ℕ → Bool → ℕ → Bool → ℕ → ℕ → ℕ
+sodiumChlorideBy kind hasChloride chlorideMass hasSodium na cl =
+    cond (leb kind 4)
+    (cond hasChloride
+    (cond (eqb chlorideMass 0) 0
+    (cond hasSodium (decided sodiumChlorideWindow 0 na na cl cl) 4))
+    4)
+    0
+
+abbrev pub sodiumCharge : List ℕ → ℕ
+sodiumCharge s = cationCharge sodium * massAt s sodium
+
+abbrev pub chlorideCharge : List ℕ → ℕ
+chlorideCharge s = anionCharge chloride * massAt s chloride
+
+abbrev pub sodiumChlorideOf : List ℕ → ℕ
+sodiumChlorideOf s =
+    sodiumChlorideBy (kindOf s) (present (readingAt s chloride)) (massAt s chloride) (present (readingAt s sodium)) (sodiumCharge s) (chlorideCharge s)
+
+-- 'TN is at least NO3-N plus NH4-N, in amounts': their ratio to TN is at most 1
+abbrev pub nitrogenWindow : Window
+nitrogenWindow = record { low = record { numerator = 0; denominator = 1 }; high = record { numerator = 1; denominator = 1 } }
+
+-- 'all kinds with TN present'; 'needs both'
+abbrev pub nitrogenBy : Bool → Bool → Bool → ℕ → ℕ → ℕ
+nitrogenBy hasTotal hasNitrate hasAmmonium mineral total =
+    cond hasTotal
+    (cond hasNitrate
+    (cond hasAmmonium (decided nitrogenWindow 0 mineral mineral total total) 4)
+    4)
+    0
+
+abbrev pub mineralNitrogen : List ℕ → ℕ
+mineralNitrogen s = massAt s nitrate + massAt s ammonium
+
+abbrev pub nitrogenOf : List ℕ → ℕ
+nitrogenOf s =
+    nitrogenBy (present (readingAt s totalNitrogen)) (present (readingAt s nitrate)) (present (readingAt s ammonium)) (mineralNitrogen s) (massAt s totalNitrogen)

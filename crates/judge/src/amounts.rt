@@ -1,0 +1,49 @@
+// Which readings of a record are there, and their amounts.
+use crate::ions;
+use crate::record;
+use reading::AmountResult;
+use reading::Mass;
+use reading::Reading;
+ghost use mathlib.Core.Path.{_≡_};
+ghost use Prim.Native.Nat.{_≤_};
+ghost use lib.ListN.{length};
+ghost use Rattle.judge.specs.Record.{recordWords, present, massOf};
+ghost use Rattle.judge.specs.Ranges.{ionsKnown};
+
+// The amount of a reading, 0 where it is missing.
+pub fn mass(r: Reading) -> Mass
+    ensures is { λ m. ⌜ m .0 ≡ massOf r ⌝ }
+    ensures most { λ m. ⌜ m .0 ≤ 200_000 ⌝ }
+{
+    match r.amount() {
+        AmountResult::Missing => Mass(0),
+        AmountResult::Given(m) => m,
+        AmountResult::Refused(_) => Mass(0),
+    }
+}
+
+pub fn is_present(r: Reading) -> bool
+    ensures { λ b. ⌜ b ≡ present r ⌝ }
+{
+    match r {
+        Reading::Missing => false,
+        Reading::Measured(_) => true,
+        Reading::Below(_) => true,
+    }
+}
+
+// Whether none of the eight ions is missing.
+pub fn ions_known(words: &[u32]) -> bool
+    requires { ⌜ length (now words) ≡ recordWords ⌝ }
+    ensures { λ r. ⌜ r ≡ ionsKnown (now (words .entry)) ⌝ }
+{
+    let mut i: usize = 0;
+    while i < ions::IONS {
+        let r = record::reading_at(words, i);
+        if !is_present(r) {
+            return false;
+        }
+        i += 1;
+    }
+    true
+}

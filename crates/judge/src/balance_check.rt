@@ -1,0 +1,95 @@
+// The ion balance.
+use crate::Charge;
+use crate::Verdict;
+use crate::amounts;
+use crate::checks::Hydrogen;
+use crate::ions;
+use crate::ions::Sums;
+use crate::record;
+use crate::window;
+use crate::window::Fraction;
+use crate::window::Span;
+use crate::window::Window;
+use reading::Reading;
+ghost use mathlib.Core.Path.{_≡_};
+ghost use Prim.Native.Nat.{_+_, _≤_};
+ghost use Rattle.judge.specs.Record.{present, massOf};
+ghost use Rattle.judge.specs.Verdicts.{verdictNumber};
+ghost use Rattle.judge.specs.Corners.{decided};
+ghost use Rattle.judge.specs.Prepared.{Prepared};
+ghost use Rattle.judge.specs.IonBalance.{balanceApplies, balanceLimit, balanceWindow, ionBalanceOf};
+
+// The check of a record. 'Not applicable' goes before 'missing'.
+pub fn of_record(words: &[u32], known: bool, hydrogen: Hydrogen, sums: Sums) -> Verdict
+    requires { ⌜ Prepared (now words) known hydrogen sums ⌝ }
+    ensures { λ r. ⌜ verdictNumber r ≡ ionBalanceOf (now (words .entry)) ⌝ }
+{
+    let carbon = record::reading_at(words, ions::ORGANIC_CARBON);
+    if !applies(words[record::KIND], carbon) {
+        return Verdict::NotApplicable;
+    }
+    if !known {
+        return Verdict::Missing;
+    }
+    let alkalinity = ions::alkalinity_charge(words[record::ALKALINITY]);
+    let anions = alkalinity.plus(sums.anions);
+    let limit = limit(words[record::CONDUCTIVITY]);
+    verdict(limit, hydrogen, sums.cations, anions)
+}
+
+// Open field samples, and runoff with little dissolved organic carbon, whose charge is not known.
+fn applies(kind: u32, carbon: Reading) -> bool
+    ensures { λ r. ⌜ r ≡ balanceApplies kind (present carbon) (massOf carbon) ⌝ }
+{
+    if kind == 1 {
+        return true;
+    }
+    if kind == 2 {
+        return true;
+    }
+    if kind != 5 {
+        return false;
+    }
+    if !amounts::is_present(carbon) {
+        return false;
+    }
+    amounts::mass(carbon).0 < 5000
+}
+
+// The limit in percent, by the measured conductivity in tenths of µS/cm.
+fn limit(measured: u32) -> u64
+    ensures { λ r. ⌜ (r ≡ balanceLimit measured) × (r ≤ 20) ⌝ }
+{
+    if measured <= 200 {
+        return 20;
+    }
+    10
+}
+
+// The window of cations to anions that the limit allows.
+fn verdict(limit: u64, hydrogen: Hydrogen, cations: Charge, anions: Charge) -> Verdict
+    requires { ⌜ (limit ≤ 20) × (hydrogen .floor .0 ≤ 10_000_000_000_000) × (hydrogen .gap .0 ≤ 1) × (cations .0 ≤ 100_000_000_000_000) × (anions .0 ≤ 100_000_000_000_000) ⌝ }
+    ensures { λ r. ⌜ verdictNumber r ≡ decided (balanceWindow limit) (hydrogen .gap .0) (hydrogen .floor .0 + cations .0) (hydrogen .floor .0 + hydrogen .gap .0 + cations .0) (anions .0) (anions .0) ⌝ }
+{
+    let less = 200 - limit;
+    let more = 200 + limit;
+    let low = Fraction {
+        numerator: less,
+        denominator: more,
+    };
+    let high = Fraction {
+        numerator: more,
+        denominator: less,
+    };
+    let least = hydrogen.floor.plus(cations);
+    let most = hydrogen.floor.plus(hydrogen.gap).plus(cations);
+    let first = Span {
+        least: least.0,
+        most: most.0,
+    };
+    let second = Span {
+        least: anions.0,
+        most: anions.0,
+    };
+    window::decide(Window { low, high }, hydrogen.gap.0, first, second)
+}
