@@ -2,7 +2,8 @@
 """Cases for the program `replay` (crates/replay), and their answers.
 
     python3 tests/replay.py store              write crates/replay/stdin and crates/replay/stdout
-    python3 tests/replay.py compare N [SEED]   run target/bin/replay on N random cases and compare each line
+    python3 tests/replay.py compare N [SEED]   run target/bin/replay on N random cases, and on a record found by search
+                                               for every p that has an undecided verdict, and compare each line
 
 The answers are computed here from document 01 alone, with whole numbers and fractions. The input is 32-bit words,
 least byte first. A case is the number of a call, a count, and that many words. At the first case that is malformed,
@@ -13,8 +14,11 @@ import random
 import struct
 import subprocess
 import sys
+from collections import Counter
+from dataclasses import dataclass, replace
 from fractions import Fraction
 from functools import lru_cache
+from math import gcd
 from pathlib import Path
 
 ROOT = Path(__file__).resolve().parent.parent
@@ -24,13 +28,18 @@ STORED = ROOT / "crates" / "replay"
 WORDS = 2**32
 MOST_WORDS = 64
 
-FLOOR, FROM_WORDS, TO_READING, AMOUNT, TO_WORDS, NUMBER = 1, 2, 3, 4, 5, 6
+FLOOR, FROM_WORDS, TO_READING, AMOUNT, TO_WORDS, NUMBER, JUDGE, AGREE = 1, 2, 3, 4, 5, 6, 7, 8
 MISSING, MEASURED, BELOW = 0, 1, 2
 
 
 # ---- Document 01, 'Refusals'
 
+LENGTH_REFUSED = 1
+SAMPLE_REFUSED = 2
+KIND_REFUSED = 3
 PH_REFUSED = 4
+CONDUCTIVITY_REFUSED = 5
+ALKALINITY_REFUSED = 6
 READING_REFUSED = 7
 REFUSALS = 13
 
@@ -90,6 +99,247 @@ def whole_micrograms(milligrams):
     return (1000 * milligrams + Fraction(1, 2)).__floor__()
 
 
+@lru_cache(maxsize=2**16)
+def is_reading(mark, bits):
+    if mark == MISSING:
+        return bits == 0
+    if mark == MEASURED:
+        return is_value(bits)
+    return mark == BELOW and is_limit(bits)
+
+
+@lru_cache(maxsize=2**16)
+def amount_of(mark, bits):
+    """The amount of a reading in µg/L, below counting as half its limit; None where it is missing."""
+    if mark == MISSING:
+        return None
+    if mark == MEASURED:
+        return whole_micrograms(exact_value(bits))
+    return whole_micrograms(exact_value(bits) / 2)
+
+
+# ---- Document 01, 'A record'
+
+RECORD_WORDS = 25
+READINGS = 10
+NH4, CA, MG, NA, K, SO4, NO3, CL, TN, DOC = range(READINGS)
+GREATEST_SAMPLE = 999_999
+KINDS = 6
+GREATEST_CONDUCTIVITY = 100_000
+GREATEST_ALKALINITY = 200_000
+GREATEST_AMOUNT = 200_000
+
+
+@dataclass
+class Record:
+    """Conductivity in tenths of µS/cm, alkalinity in tenths of µeq/L, ten amounts in µg/L, None where missing."""
+
+    number: int
+    kind: int
+    p: int
+    conductivity: int
+    alkalinity: int
+    amounts: list
+
+
+def refusal_of(words):
+    """The number of the first of the record's own tests that refuses the words; None where none does."""
+    if len(words) != RECORD_WORDS:
+        return LENGTH_REFUSED
+    number, kind, p, conductivity, alkalinity = words[:5]
+    if not 1 <= number <= GREATEST_SAMPLE:
+        return SAMPLE_REFUSED
+    if not 1 <= kind <= KINDS:
+        return KIND_REFUSED
+    if not LEAST_PH <= p <= GREATEST_PH:
+        return PH_REFUSED
+    if not 1 <= conductivity <= GREATEST_CONDUCTIVITY:
+        return CONDUCTIVITY_REFUSED
+    if not 0 <= alkalinity <= GREATEST_ALKALINITY:
+        return ALKALINITY_REFUSED
+    if not all(is_reading(words[5 + 2 * i], words[6 + 2 * i]) for i in range(READINGS)):
+        return READING_REFUSED
+    return None
+
+
+def record_of(words):
+    """The record that the words are, where no test refuses them."""
+    amounts = [amount_of(words[5 + 2 * i], words[6 + 2 * i]) for i in range(READINGS)]
+    return Record(*words[:5], amounts)
+
+
+# ---- Document 01, 'Charge and conductance'
+
+# The two columns of each ion: 10^4 u for a µg/L, and 10^-13 µS/cm for a u.
+CATIONS = {NH4: (7139, 735), CA: (4990, 595), MG: (8229, 531), NA: (4350, 501), K: (2558, 735)}
+ANIONS = {SO4: (6237, 800), NO3: (7139, 714), CL: (2821, 764)}
+IONS = {**CATIONS, **ANIONS}
+# u in the step of the ions' charges, and in a tenth of a µeq/L of alkalinity.
+ION_STEP = 10**4
+ALKALINITY_STEP = 10**8
+HYDROGEN_CONDUCTANCE = 3500
+ALKALINITY_CONDUCTANCE = 445
+# 10^-13 µS/cm in a tenth of a µS/cm.
+MEASURED_STEP = 10**12
+
+
+def charge(record, ions):
+    """The charge of some of the ions, in u."""
+    return sum(ION_STEP * factor * record.amounts[ion] for ion, (factor, _) in ions.items())
+
+
+def anions_of(record):
+    return ALKALINITY_STEP * record.alkalinity + charge(record, ANIONS)
+
+
+def calculated_without_hydrogen(record):
+    """The calculated conductivity of all rows but hydrogen's, in 10^-13 µS/cm."""
+    ions = sum(ION_STEP * factor * conductance * record.amounts[ion] for ion, (factor, conductance) in IONS.items())
+    return ALKALINITY_CONDUCTANCE * ALKALINITY_STEP * record.alkalinity + ions
+
+
+# ---- Document 01, 'The four checks'
+
+NOT_APPLICABLE, WITHIN, OUTSIDE, UNDECIDED, LACKING = range(5)
+
+LITTLE_CARBON = 5_000
+
+
+def lacks(record, ions):
+    return any(record.amounts[ion] is None for ion in ions)
+
+
+def verdict_between(h, sides):
+    """The verdict over the fractions x strictly between h and h + 1. The inequality is two sides, each of which is a
+    slope and a constant and says that slope * x + constant is at most 0. One slope is rising, so that its side holds up
+    to a greatest fraction; the other is falling, and its side holds from a least fraction."""
+    greatest = min(Fraction(-constant, slope) for slope, constant in sides if slope > 0)
+    least = max(Fraction(-constant, slope) for slope, constant in sides if slope < 0)
+    if least <= h and h + 1 <= greatest:
+        return WITHIN
+    if greatest <= h or h + 1 <= least or greatest < least:
+        return OUTSIDE
+    return UNDECIDED
+
+
+def balance_limit(conductivity):
+    return 20 if conductivity <= 200 else 10
+
+
+def conductivity_limit(conductivity):
+    if conductivity <= 100:
+        return 30
+    return 20 if conductivity <= 200 else 10
+
+
+def balance_applies(record):
+    carbon = record.amounts[DOC]
+    return record.kind in (1, 2) or (record.kind == 5 and carbon is not None and carbon < LITTLE_CARBON)
+
+
+def balance_holds(record, x):
+    """The inequality of the ion balance, with x u of hydrogen."""
+    cations = x + charge(record, CATIONS)
+    anions = anions_of(record)
+    return 200 * abs(cations - anions) <= balance_limit(record.conductivity) * (cations + anions)
+
+
+def balance_sides(record):
+    """200 * (x + cations - anions), and 200 times its opposite, are at most limit * (x + cations + anions)."""
+    cations = charge(record, CATIONS)
+    anions = anions_of(record)
+    limit = balance_limit(record.conductivity)
+    return [(200 * sign - limit, 200 * sign * (cations - anions) - limit * (cations + anions)) for sign in (1, -1)]
+
+
+def ion_balance(record):
+    if not balance_applies(record):
+        return NOT_APPLICABLE
+    if lacks(record, IONS):
+        return LACKING
+    h = floor_of_hydrogen(record.p)
+    if record.p % 100 == 0:
+        return WITHIN if balance_holds(record, h) else OUTSIDE
+    return verdict_between(h, balance_sides(record))
+
+
+def conductivity_holds(record, x):
+    """The inequality of the conductivity, with x u of hydrogen."""
+    calculated = HYDROGEN_CONDUCTANCE * x + calculated_without_hydrogen(record)
+    measured = MEASURED_STEP * record.conductivity
+    return 100 * abs(calculated - measured) <= conductivity_limit(record.conductivity) * measured
+
+
+def conductivity_sides(record):
+    """100 * (3500 * x + others - measured), and 100 times its opposite, are at most limit * measured."""
+    others = calculated_without_hydrogen(record)
+    measured = MEASURED_STEP * record.conductivity
+    most = conductivity_limit(record.conductivity) * measured
+    return [(100 * sign * HYDROGEN_CONDUCTANCE, 100 * sign * (others - measured) - most) for sign in (1, -1)]
+
+
+def conductivity_check(record):
+    if lacks(record, IONS):
+        return LACKING
+    h = floor_of_hydrogen(record.p)
+    if record.p % 100 == 0:
+        return WITHIN if conductivity_holds(record, h) else OUTSIDE
+    return verdict_between(h, conductivity_sides(record))
+
+
+def sodium_chloride(record):
+    if record.kind not in (1, 2, 3, 4) or record.amounts[CL] == 0:
+        return NOT_APPLICABLE
+    if lacks(record, (NA, CL)):
+        return LACKING
+    ratio = Fraction(charge(record, {NA: CATIONS[NA]}), charge(record, {CL: ANIONS[CL]}))
+    return WITHIN if Fraction(1, 2) <= ratio <= Fraction(3, 2) else OUTSIDE
+
+
+def nitrogen(record):
+    if record.amounts[TN] is None:
+        return NOT_APPLICABLE
+    if lacks(record, (NO3, NH4)):
+        return LACKING
+    return WITHIN if record.amounts[TN] >= record.amounts[NO3] + record.amounts[NH4] else OUTSIDE
+
+
+CHECKS = {
+    "ion balance": ion_balance,
+    "conductivity": conductivity_check,
+    "Na/Cl": sodium_chloride,
+    "nitrogen": nitrogen,
+}
+
+
+def verdicts_of(words):
+    record = record_of(words)
+    return [check(record) for check in CHECKS.values()]
+
+
+# ---- Document 01, 'The docket': when two records agree
+
+
+def within_a_tenth(x, y):
+    return 10 * abs(x - y) <= max(x, y)
+
+
+def amounts_agree(x, y):
+    """Missing agrees only with missing."""
+    if x is None or y is None:
+        return x is y
+    return within_a_tenth(x, y)
+
+
+def records_agree(one, other):
+    return (
+        abs(one.p - other.p) <= 10
+        and within_a_tenth(one.conductivity, other.conductivity)
+        and within_a_tenth(one.alkalinity, other.alkalinity)
+        and all(amounts_agree(one.amounts[ion], other.amounts[ion]) for ion in IONS)
+    )
+
+
 # ---- The calls
 
 
@@ -100,13 +350,11 @@ def answer_floor(p):
 
 
 def answer_from_words(mark, bits):
-    if mark == MISSING and bits == 0:
+    if not is_reading(mark, bits):
+        return refused(READING_REFUSED)
+    if mark == MISSING:
         return "missing"
-    if mark == MEASURED and is_value(bits):
-        return f"measured {bits}"
-    if mark == BELOW and is_limit(bits):
-        return f"below {bits}"
-    return refused(READING_REFUSED)
+    return f"measured {bits}" if mark == MEASURED else f"below {bits}"
 
 
 def answer_to_reading(value, limit):
@@ -148,6 +396,29 @@ def answer_number(place):
     return f"number {place}"
 
 
+def answer_judge(*words):
+    number = refusal_of(words)
+    if number is not None:
+        return refused(number)
+    return "judged " + " ".join(str(verdict) for verdict in verdicts_of(words))
+
+
+def answer_agree(*words):
+    """A count, that many words for the first record, and the rest for the second."""
+    if not words or words[0] > len(words) - 1:
+        return None
+    end = 1 + words[0]
+    first, second = words[1:end], words[end:]
+    for record in (first, second):
+        number = refusal_of(record)
+        if number is not None:
+            return refused(number)
+    return "agree" if records_agree(record_of(first), record_of(second)) else "differ"
+
+
+# How many words a call takes that takes any number of them.
+ANY = None
+
 # The number of each call: how many words it takes, and its answer, which is None where the case is malformed.
 CALLS = {
     FLOOR: (1, answer_floor),
@@ -156,6 +427,8 @@ CALLS = {
     AMOUNT: (2, answer_amount),
     TO_WORDS: (2, answer_to_words),
     NUMBER: (1, answer_number),
+    JUDGE: (ANY, answer_judge),
+    AGREE: (ANY, answer_agree),
 }
 
 
@@ -179,7 +452,7 @@ def case_at(data, at):
     if count > MOST_WORDS or len(data) < end or call not in CALLS:
         return None, at
     arity, answer = CALLS[call]
-    if count != arity:
+    if arity is not ANY and count != arity:
         return None, at
     return answer(*struct.unpack_from(f"<{count}I", data, at + 8)), end
 
@@ -266,6 +539,203 @@ def spread(ties):
     return ties[:8] + ties[8 : -8 : len(ties) // 24] + ties[-8:]
 
 
+# ---- Records made for a purpose
+
+
+def reading_words(amount, mark=MEASURED):
+    """A mark and a pattern that give an amount: the float nearest to it, or to its double for a limit."""
+    if amount is None:
+        return [MISSING, 0]
+    bits = nearest_pattern(amount / 1000)
+    if mark == BELOW:
+        bits = max(LEAST_LIMIT, nearest_pattern(2 * amount / 1000))
+    assert is_reading(mark, bits) and amount_of(mark, bits) == amount
+    return [mark, bits]
+
+
+def words_of(record, marks=(MEASURED,) * READINGS):
+    """The words of a record, its readings with these marks where they are not missing."""
+    words = [record.number, record.kind, record.p, record.conductivity, record.alkalinity]
+    for amount, mark in zip(record.amounts, marks):
+        words += reading_words(amount, mark)
+    return words
+
+
+def with_word(words, place, word):
+    return [*words[:place], word, *words[place + 1 :]]
+
+
+def with_reading(words, ion, mark, bits):
+    return with_word(with_word(words, 5 + 2 * ion, mark), 6 + 2 * ion, bits)
+
+
+def with_amount(words, ion, amount, mark=MEASURED):
+    return with_reading(words, ion, *reading_words(amount, mark))
+
+
+# The sample that document 01 prints ('A batch').
+SAMPLE = [7, 2, 500, 150, 0]
+for pattern in (0x3E800000, 0x3F000000, 0, 0x3F800000, 0, 0x3F000000, 0x3E800000, 0x3FC00000, 0x3F000000):
+    SAMPLE += [MEASURED, pattern]
+SAMPLE += [MISSING, 0]
+
+
+def only_alkalinity(conductivity, alkalinity):
+    return words_of(Record(7, 2, 500, conductivity, alkalinity, [0] * READINGS))
+
+
+# Document 01, 'Proved cases' 5 to 16 and the printed sample: the words, and the verdict of a check that it names.
+PROVED = [
+    *((only_alkalinity(200, t), "ion balance", v) for t, v in zip((81, 82, 122, 123), (2, 1, 1, 2))),
+    *((only_alkalinity(201, t), "ion balance", v) for t, v in zip((90, 91, 110, 111), (2, 1, 1, 2))),
+    *((with_word(SAMPLE, 3, cm), "conductivity", v) for cm, v in zip((128, 129, 193, 194), (2, 1, 1, 2))),
+    *((SAMPLE, check, WITHIN) for check in CHECKS),
+]
+
+
+def check_proved_cases():
+    """The answers computed here are those that the document states."""
+    assert [floor_of_hydrogen(p) for p in (600, 530, 999)] == [10**9, 5_011_872_336, 102_329]
+    assert amount_of(MEASURED, 0x3D800000) == 63
+    for words, check, verdict in PROVED:
+        assert CHECKS[check](record_of(words)) == verdict
+
+
+# ---- Records on a limit of the ion balance
+#
+# With An and Cat (Cat without hydrogen) in steps of 10^4 u, of which the ions' charges and alkalinity are whole
+# numbers, hydrogen x is at most 10^4 * (a * An - c * Cat) / c, or at least that, with these a and c for each limit.
+# So for whole k, records with a * An - c * Cat = k are those whose bound for x is 10^4 * k / c.
+
+
+def balance_bounds():
+    """Each limit in percent with its a and c: of the greatest fraction for hydrogen, then of the least."""
+    for limit in (20, 10):
+        unit = gcd(200 + limit, 200 - limit)
+        more, less = (200 + limit) // unit, (200 - limit) // unit
+        yield limit, more, less
+        yield limit, less, more
+
+
+BALANCE_BOUNDS = list(balance_bounds())
+
+
+def in_balance(dice, a, c, k):
+    """Amounts of the eight ions and an alkalinity with a * An - c * Cat = k. Potassium gives the cations the remainder
+    by a that is needed, chloride gives the anions the one by a tenth of a µeq/L, and alkalinity is what is left."""
+    factor = {ion: columns[0] for ion, columns in IONS.items()}
+    tenth = ALKALINITY_STEP // ION_STEP
+    while True:
+        most = dice.choice([2_000, 10_000, 50_000])
+        amounts = [dice.randrange(most) for _ in IONS]
+        amounts[K] = amounts[CL] = 0
+        cations = sum(factor[ion] * amounts[ion] for ion in CATIONS)
+        amounts[K] = next(n for n in range(a) if (k + c * (cations + factor[K] * n)) % a == 0)
+        anions = (k + c * (cations + factor[K] * amounts[K])) // a
+        left = anions - sum(factor[ion] * amounts[ion] for ion in ANIONS)
+        amounts[CL] = left * pow(factor[CL], -1, tenth) % tenth
+        alkalinity = (left - factor[CL] * amounts[CL]) // tenth
+        if 0 <= alkalinity <= GREATEST_ALKALINITY:
+            return amounts, alkalinity
+
+
+def bound_between(h, numerator, denominator):
+    """The whole k with numerator * k / denominator strictly between h and h + 1; None where there is none."""
+    k = denominator * h // numerator + 1
+    return k if numerator * k < denominator * (h + 1) else None
+
+
+def open_field_record(dice, p, conductivity, alkalinity, ions):
+    """A record with the amounts of the eight ions, for which all four checks apply."""
+    kind = dice.randint(1, 2)
+    return Record(dice.randint(1, GREATEST_SAMPLE), kind, p, conductivity, alkalinity, [*ions, 500, 800])
+
+
+def on_balance_limit(dice, p, limit, a, c, k):
+    """A record with 10^4 * k / c for this bound."""
+    amounts, alkalinity = in_balance(dice, a, c, k)
+    conductivity = dice.randint(1, 200) if limit == 20 else dice.randint(201, 2_000)
+    return open_field_record(dice, p, conductivity, alkalinity, amounts)
+
+
+def undecided_balance_places():
+    """Each p with a limit, its a and c, and the k that gives an undecided ion balance."""
+    for p in range(LEAST_PH, GREATEST_PH + 1):
+        for limit, a, c in BALANCE_BOUNDS:
+            k = bound_between(floor_of_hydrogen(p), ION_STEP, c)
+            if p % 100 != 0 and k is not None:
+                yield p, limit, a, c, k
+
+
+def undecided_balances(dice):
+    return (on_balance_limit(dice, *place) for place in undecided_balance_places())
+
+
+# ---- Records on a limit of the conductivity
+#
+# In 10^-9 µS/cm, of which the conductances of the ions and of alkalinity are whole numbers, with E for their sum and w
+# for the measured tenths: hydrogen x is at most 20 * k / 7 for k = (100 + M) * 10^6 * w - E, and at least 20 * k / 7
+# for k = (100 - M) * 10^6 * w - E.
+
+HYDROGEN_BOUND = (20, 7)
+
+
+# The least and the greatest sum of conductances that `conducting` is asked for: 1 and 800 µS/cm.
+LEAST_SUM, GREATEST_SUM = 10**9, 8 * 10**11
+
+
+def conducting(dice, total):
+    """Amounts of the eight ions and an alkalinity with a sum of conductances. Magnesium gives it the remainder by a
+    tenth of a µeq/L of alkalinity that is needed, NH4-N is tried until magnesium is small, and alkalinity is what is
+    left."""
+    factor = {ion: columns[0] * columns[1] for ion, columns in IONS.items()}
+    tenth = ALKALINITY_CONDUCTANCE * ALKALINITY_STEP // ION_STEP
+    inverse = pow(factor[MG], -1, tenth)
+    step = factor[NH4] * inverse % tenth
+    while True:
+        amounts = [dice.randint(0, total // (12 * factor[ion])) for ion in IONS]
+        amounts[MG] = amounts[NH4] = 0
+        left = total - sum(factor[ion] * amounts[ion] for ion in IONS)
+        most = left // (3 * factor[MG])
+        magnesium = left * inverse % tenth
+        for ammonium in range(left // (3 * factor[NH4]) + 1):
+            if magnesium <= most:
+                amounts[NH4], amounts[MG] = ammonium, magnesium
+                return amounts, (left - factor[NH4] * ammonium - factor[MG] * magnesium) // tenth
+            magnesium = (magnesium - step) % tenth
+
+
+def on_conductivity_limit(dice, p, conductivity, sign, k):
+    """A record with 20 * k / 7 for the greatest fraction for hydrogen (sign 1) or the least (sign -1); None where
+    hydrogen leaves too little of the conductivity to the other ions, or too much."""
+    total = (100 + sign * conductivity_limit(conductivity)) * 10**6 * conductivity - k
+    if not LEAST_SUM <= total <= GREATEST_SUM or not 1 <= conductivity <= GREATEST_CONDUCTIVITY:
+        return None
+    amounts, alkalinity = conducting(dice, total)
+    return open_field_record(dice, p, conductivity, alkalinity, amounts)
+
+
+def room_for_others(dice, k):
+    """A measured conductivity of which a share is left to the ions but hydrogen."""
+    share = dice.choice([40, 100, 400, 2_000])
+    return k // 10**8 + dice.randint(share // 2, share)
+
+
+def somewhere_on_conductivity_limit(dice, p, k):
+    while True:
+        found = on_conductivity_limit(dice, p, room_for_others(dice, k), dice.choice((-1, 1)), k)
+        if found is not None:
+            return found
+
+
+def undecided_conductivities(dice):
+    """A record for each p that has an undecided conductivity."""
+    for p in range(LEAST_PH, GREATEST_PH + 1):
+        k = bound_between(floor_of_hydrogen(p), *HYDROGEN_BOUND)
+        if p % 100 != 0 and k is not None:
+            yield somewhere_on_conductivity_limit(dice, p, k)
+
+
 # ---- The stored cases
 
 
@@ -310,6 +780,226 @@ def stored_numbers():
     yield from ((NUMBER, place) for place in range(1, REFUSALS + 1))
 
 
+def judged(records):
+    return ((JUDGE, *words) for words in records)
+
+
+def stored_damaged():
+    """Records that a test of theirs refuses, by its number, each otherwise the printed sample."""
+    for count in (0, 1, 5, RECORD_WORDS - 1, RECORD_WORDS + 1, 2 * RECORD_WORDS, MOST_WORDS):
+        yield LENGTH_REFUSED, (3 * SAMPLE)[:count]
+    ranges = [(1, GREATEST_SAMPLE), (1, KINDS), (LEAST_PH, GREATEST_PH)]
+    ranges += [(1, GREATEST_CONDUCTIVITY), (0, GREATEST_ALKALINITY)]
+    for place, (least, greatest) in enumerate(ranges):
+        for word in (least - 1, greatest + 1, 2**31, 2**32 - 1):
+            if word >= 0:
+                yield SAMPLE_REFUSED + place, with_word(SAMPLE, place, word)
+    readings = [(MISSING, 1), (3, 0), (2**32 - 1, 0)]
+    readings += [(MEASURED, bits) for bits in (GREATEST + 1, 0x80000000, INFINITY, 0x7FC00000)]
+    readings += [(BELOW, bits) for bits in (0, LEAST_LIMIT - 1, GREATEST + 1, 0xBF800000)]
+    for ion in range(READINGS):
+        yield from ((READING_REFUSED, with_reading(SAMPLE, ion, *reading)) for reading in readings)
+
+
+# A change of the printed sample for each of the tests 2 to 7. Any of them together give the number of the first.
+DAMAGES = {
+    SAMPLE_REFUSED: lambda words: with_word(words, 0, 0),
+    KIND_REFUSED: lambda words: with_word(words, 1, 7),
+    PH_REFUSED: lambda words: with_word(words, 2, 1001),
+    CONDUCTIVITY_REFUSED: lambda words: with_word(words, 3, 0),
+    ALKALINITY_REFUSED: lambda words: with_word(words, 4, GREATEST_ALKALINITY + 1),
+    READING_REFUSED: lambda words: with_reading(words, DOC, 3, 0),
+}
+
+
+def stored_refusals():
+    for number, words in stored_damaged():
+        assert refusal_of(words) == number
+        yield words
+    for number, damage in DAMAGES.items():
+        for other, second in DAMAGES.items():
+            words = second(damage(SAMPLE))
+            assert refusal_of(words) == min(number, other)
+            yield words
+        yield damage(SAMPLE)[:-1]
+        yield damage(SAMPLE) + [0]
+    everything = SAMPLE
+    for damage in DAMAGES.values():
+        everything = damage(everything)
+    yield from (everything, everything[:-1], everything + [0])
+
+
+def stored_ends():
+    """The ends of the ranges, and the sums that are greatest and least."""
+    ends = [(1, GREATEST_SAMPLE), range(1, KINDS + 1), (LEAST_PH, 201, 999, GREATEST_PH)]
+    ends += [(1, 100, 101, 200, 201, GREATEST_CONDUCTIVITY), (0, 1, GREATEST_ALKALINITY)]
+    for place, words in enumerate(ends):
+        yield from (with_word(SAMPLE, place, word) for word in words)
+    for p in (LEAST_PH, 201, 999, GREATEST_PH):
+        for conductivity in (1, GREATEST_CONDUCTIVITY):
+            for alkalinity, amount in ((0, 0), (GREATEST_ALKALINITY, GREATEST_AMOUNT), (GREATEST_ALKALINITY, 0)):
+                yield words_of(Record(1, 2, p, conductivity, alkalinity, [amount] * READINGS))
+
+
+def stored_readings_of_records():
+    """Each reading missing, for every kind; and each below."""
+    for kind in range(1, KINDS + 1):
+        sample = with_amount(with_word(SAMPLE, 1, kind), DOC, 800)
+        yield from (with_reading(sample, ion, MISSING, 0) for ion in range(READINGS))
+        yield words_of(Record(1, kind, 500, 150, 0, [None] * READINGS))
+    for ion in range(READINGS):
+        yield with_reading(SAMPLE, ion, BELOW, LEAST_LIMIT)
+        yield with_reading(SAMPLE, ion, BELOW, GREATEST)
+        amount = record_of(SAMPLE).amounts[ion]
+        yield with_amount(SAMPLE, ion, 800 if amount is None else amount, BELOW)
+
+
+def stored_carbon():
+    """Runoff with organic carbon on both sides of its line, and others whose kind alone decides."""
+    for kind in (2, 5, 6):
+        sample = with_word(SAMPLE, 1, kind)
+        for amount in (0, LITTLE_CARBON - 1, LITTLE_CARBON, LITTLE_CARBON + 1, 50_000):
+            yield from (with_amount(sample, DOC, amount, mark) for mark in (MEASURED, BELOW))
+        yield with_reading(sample, DOC, MISSING, 0)
+    runoff = with_word(SAMPLE, 1, 5)
+    yield from (with_reading(runoff, DOC, MEASURED, bits) for bits in around((LITTLE_CARBON - 0.5) / 1000))
+    yield from (with_reading(runoff, DOC, BELOW, bits) for bits in around((2 * LITTLE_CARBON - 1) / 1000))
+    for carbon in (None, LITTLE_CARBON - 1, LITTLE_CARBON):
+        for ion in IONS:
+            yield with_reading(with_amount(runoff, DOC, carbon), ion, MISSING, 0)
+
+
+def stored_ratios():
+    """Na/Cl: exactly 0.5 and 1.5, and amounts one less and one more than these; chloride 0 or missing."""
+    halves = [(2821 * m, 8700 * m) for m in (1, 7, 22)]
+    threes = [(2821 * m, 2900 * m) for m in (1, 30, 68)]
+    for sodium, chloride in halves + threes:
+        assert Fraction(4350 * sodium, 2821 * chloride) in (Fraction(1, 2), Fraction(3, 2))
+        for less_or_more in (-1, 0, 1):
+            yield with_amount(with_amount(SAMPLE, NA, sodium + less_or_more), CL, chloride)
+            yield with_amount(with_amount(SAMPLE, NA, sodium), CL, chloride + less_or_more)
+    for kind in (1, 4, 5):
+        sample = with_word(SAMPLE, 1, kind)
+        for sodium in (None, 0, 1_000):
+            yield from (with_amount(with_amount(sample, NA, sodium), CL, chloride) for chloride in (None, 0, 1))
+        # A chloride that is there and has amount 0: a float below half a µg/L, and the least limit.
+        yield with_reading(sample, CL, MEASURED, nearest_pattern(0.0005) - 1)
+        yield with_reading(with_reading(sample, CL, BELOW, LEAST_LIMIT), NA, MISSING, 0)
+
+
+def stored_nitrogen():
+    """Total nitrogen equal to NO3-N and NH4-N together, one less and one more; and out of its reach."""
+    for kind in (1, 6):
+        sample = with_word(SAMPLE, 1, kind)
+        for nitrate, ammonium in ((0, 0), (0, 250), (250, 250), (1, 199_998), (100_000, 100_000), (200_000, 200_000)):
+            pair = with_amount(with_amount(sample, NO3, nitrate), NH4, ammonium)
+            for total in {0, *(nitrate + ammonium + n for n in (-1, 0, 1)), GREATEST_AMOUNT}:
+                if 0 <= total <= GREATEST_AMOUNT:
+                    yield with_amount(pair, TN, total)
+        for nitrate in (None, 250):
+            for ammonium in (None, 250):
+                pair = with_amount(with_amount(sample, NO3, nitrate), NH4, ammonium)
+                yield from (with_amount(pair, TN, total) for total in (None, 0, 500))
+
+
+def stored_whole_limits(dice):
+    """At whole pH: the two sides of an inequality equal, and as near to that as can be on both sides."""
+    for p in range(LEAST_PH, GREATEST_PH + 1, 100):
+        h = floor_of_hydrogen(p)
+        for limit, a, c in BALANCE_BOUNDS:
+            for off in (-1, 0, 1):
+                yield on_balance_limit(dice, p, limit, a, c, c * h // ION_STEP + off)
+        k = 7 * h // 20
+        steps = (100, 101, 200, 201) if p in (600, 1000) else ()
+        for sign in (-1, 1):
+            for conductivity in (*steps, k // ((100 + 10 * sign) * 10**6) + 500):
+                yield from (on_conductivity_limit(dice, p, conductivity, sign, k + off) for off in (-1, 0, 1))
+
+
+def stored_open_limits(dice):
+    """At other pH: a greatest or a least fraction for hydrogen that is h or h + 1 itself, neither of which is meant.
+    Only the conductivity has such records: at no such p is h or h + 1 a multiple of 10^4."""
+    for p in range(LEAST_PH, GREATEST_PH + 1):
+        for end in (floor_of_hydrogen(p), floor_of_hydrogen(p) + 1):
+            assert p % 100 == 0 or end % ION_STEP != 0
+            if p % 100 != 0 and end % 20 == 0:
+                yield somewhere_on_conductivity_limit(dice, p, 7 * end // 20)
+
+
+def has_both_outcomes(record, holds):
+    """Whether the inequality holds for one of two fractions between h and h + 1, and fails for the other."""
+    h = floor_of_hydrogen(record.p)
+    return holds(record, h + Fraction(1, 1000)) != holds(record, h + Fraction(999, 1000))
+
+
+def undecided_records(dice):
+    """Records found by search with verdict 3: all p that have one, and for the ion balance all limits and bounds."""
+    balances = list(undecided_balances(dice))
+    conductivities = list(undecided_conductivities(dice))
+    assert all(ion_balance(record) == UNDECIDED and has_both_outcomes(record, balance_holds) for record in balances)
+    for record in conductivities:
+        assert conductivity_check(record) == UNDECIDED and has_both_outcomes(record, conductivity_holds)
+    return balances, conductivities
+
+
+def stored_undecided(dice):
+    """Some of them, the ion balances with records a tenth of a µeq/L to their sides."""
+    balances, conductivities = undecided_records(dice)
+    for record in balances:
+        yield from (replace(record, alkalinity=record.alkalinity + tenths) for tenths in (-1, 0, 1))
+    yield from conductivities[::6]
+
+
+def stored_judged():
+    dice = random.Random(1)
+    yield from (words for words, _, _ in PROVED)
+    yield from stored_refusals()
+    yield from stored_ends()
+    yield from stored_readings_of_records()
+    yield from stored_carbon()
+    yield from stored_ratios()
+    yield from stored_nitrogen()
+    for records in (stored_whole_limits, stored_open_limits, stored_undecided):
+        yield from (words_of(record) for record in records(dice))
+
+
+def pair_of(first, second):
+    return (AGREE, len(first), *first, *second)
+
+
+def stored_agreeing():
+    """Pairs of records, each of which is also stored the other way round."""
+    base = Record(7, 2, 500, 1_000, 2_000, [1_000] * READINGS)
+    yield from ((base, replace(base, p=p)) for p in (489, 490, 500, 510, 511))
+    # The larger, then smaller ones that differ from it by a tenth of it or less, and by more than that.
+    steps = [(1_000, 900), (1_000, 899), (1_009, 909), (1_009, 908), (10, 9), (10, 8), (9, 8), (1, 1)]
+    for large, small in steps:
+        yield replace(base, conductivity=large), replace(base, conductivity=small)
+        yield replace(base, alkalinity=large), replace(base, alkalinity=small)
+    yield from ((replace(base, alkalinity=0), replace(base, alkalinity=t)) for t in (0, 1))
+    steps += [(0, 0), (1, 0), (200_000, 180_000), (200_000, 179_999), (None, None), (None, 0)]
+    for reading in range(READINGS):
+        few = steps if reading == MG else steps[:2]
+        for pair in (*few, (None, 1_000)):
+            yield tuple(replace(base, amounts=with_word(base.amounts, reading, amount)) for amount in pair)
+    yield base, replace(base, number=8, kind=3)
+
+
+def stored_agreements():
+    for first, second in stored_agreeing():
+        yield pair_of(words_of(first), words_of(second))
+        yield pair_of(words_of(second), words_of(first))
+    below = [with_amount(SAMPLE, ion, record_of(SAMPLE).amounts[ion], BELOW) for ion in IONS]
+    yield from (pair_of(SAMPLE, words) for words in below)
+    yield pair_of(SAMPLE, with_reading(SAMPLE, MG, BELOW, LEAST_LIMIT))
+    records = [SAMPLE, SAMPLE[:-1], *(damage(SAMPLE) for damage in DAMAGES.values())]
+    for first in records:
+        yield from (pair_of(first, second) for second in records)
+    for count in (0, RECORD_WORDS - 1, RECORD_WORDS + 1, 2 * RECORD_WORDS):
+        yield (AGREE, count, *SAMPLE, *SAMPLE)
+    yield AGREE, 0
+
+
 def stored_input():
     """The last case lacks a word, so that the end of a damaged input is stored too."""
     cases = [
@@ -318,17 +1008,30 @@ def stored_input():
         *stored_analyses(),
         *stored_amounts(),
         *stored_numbers(),
+        *judged(stored_judged()),
+        *stored_agreements(),
         (FROM_WORDS, MEASURED, 0),
     ]
     return input_of(cases)[:-4]
 
 
+def print_tally(lines):
+    """How often each verdict and each agreement came."""
+    verdicts = [line.split()[1:] for line in lines if line.startswith("judged ")]
+    for place, check in enumerate(CHECKS):
+        tally = Counter(row[place] for row in verdicts)
+        print(f"  {check}: " + ", ".join(f"verdict {verdict} {tally[verdict]}" for verdict in sorted(tally)))
+    print(f"  {lines.count('agree')} agree, {lines.count('differ')} differ")
+
+
 def store():
+    check_proved_cases()
     data = stored_input()
     lines = lines_of(data)
     (STORED / "stdin").write_bytes(data)
     (STORED / "stdout").write_text("".join(line + "\n" for line in lines))
     print(f"{len(lines)} cases stored")
+    print_tally(lines)
 
 
 # ---- Random cases
@@ -373,25 +1076,211 @@ def random_reading(dice):
     return call, random_mark(dice), dice.choice([random_pattern(dice), random_pattern(dice), 0])
 
 
+# Records. An exact record is on a limit to the step in which charges or conductances come; a near one has a
+# conductivity, an alkalinity or an ion chosen so that it comes within a few units of a limit.
+
+
+def random_ph(dice):
+    return dice.choice([dice.randint(LEAST_PH, GREATEST_PH), dice.randint(350, 750), 100 * dice.randint(2, 10)])
+
+
+def random_kind(dice):
+    return dice.choice([1, 1, 2, 2, 3, 4, 5, 5, 5, 6])
+
+
+def random_conductivity(dice):
+    return dice.choice([dice.randint(1, 250), dice.randint(95, 105), dice.randint(195, 205), dice.randint(1, 100_000)])
+
+
+def plain_record(dice):
+    most = dice.choice([20, 200, 2_000, 2_000, 20_000, GREATEST_AMOUNT])
+    amounts = [dice.randint(0, most) for _ in range(READINGS)]
+    alkalinity = dice.choice([0, dice.randint(0, most)])
+    number = dice.randint(1, GREATEST_SAMPLE)
+    return Record(number, random_kind(dice), random_ph(dice), random_conductivity(dice), alkalinity, amounts)
+
+
+UNDECIDED_BALANCE_PLACES = list(undecided_balance_places())
+
+
+def exact_balance(dice):
+    if dice.random() < 0.1:
+        return on_balance_limit(dice, *dice.choice(UNDECIDED_BALANCE_PLACES))
+    p = random_ph(dice)
+    limit, a, c = dice.choice(BALANCE_BOUNDS)
+    k = c * floor_of_hydrogen(p) // ION_STEP + dice.randint(-1, 2)
+    return on_balance_limit(dice, p, limit, a, c, k)
+
+
+def near_balance(dice):
+    record = plain_record(dice)
+    limit, a, c = dice.choice(BALANCE_BOUNDS)
+    if limit == 20:
+        record.conductivity = dice.randint(1, 200)
+    anions = Fraction(c, a) * (floor_of_hydrogen(record.p) + charge(record, CATIONS))
+    chosen = dice.choice([None, *ANIONS])
+    if chosen is None:
+        left = anions - charge(record, ANIONS)
+        alkalinity = round(left / ALKALINITY_STEP) + dice.randint(-2, 2)
+        return replace(record, alkalinity=min(max(alkalinity, 0), GREATEST_ALKALINITY))
+    record.amounts[chosen] = 0
+    left = anions - anions_of(record)
+    amount = round(left / (ION_STEP * ANIONS[chosen][0])) + dice.randint(-2, 2)
+    record.amounts[chosen] = min(max(amount, 0), GREATEST_AMOUNT)
+    return record
+
+
+def exact_conductivity(dice):
+    while True:
+        p = random_ph(dice)
+        k = 7 * floor_of_hydrogen(p) // 20 + dice.randint(-1, 2)
+        conductivity = dice.choice([100, 101, 200, 201, room_for_others(dice, k), room_for_others(dice, k)])
+        found = on_conductivity_limit(dice, p, conductivity, dice.choice((-1, 1)), k)
+        if found is not None:
+            return found
+
+
+def near_conductivity(dice):
+    record = dice.choice([plain_record, near_balance])(dice)
+    calculated = HYDROGEN_CONDUCTANCE * floor_of_hydrogen(record.p) + calculated_without_hydrogen(record)
+    limit = dice.choice([-30, -20, -10, 10, 20, 30])
+    conductivity = round(Fraction(100 * calculated, (100 + limit) * MEASURED_STEP)) + dice.randint(-1, 1)
+    return replace(record, conductivity=min(max(conductivity, 1), GREATEST_CONDUCTIVITY))
+
+
+def vary_ratio(dice, record):
+    """Sodium near a limit of the ratio."""
+    half = dice.choice([1, 3])
+    sodium = half * 2821 * record.amounts[CL] // (2 * 4350) + dice.randint(-1, 2)
+    record.amounts[NA] = min(max(sodium, 0), GREATEST_AMOUNT)
+
+
+def vary_nitrogen(dice, record):
+    total = record.amounts[NO3] + record.amounts[NH4] + dice.randint(-1, 1)
+    record.amounts[TN] = min(max(total, 0), GREATEST_AMOUNT)
+
+
+def vary_carbon(dice, record):
+    record.amounts[DOC] = dice.choice([LITTLE_CARBON + dice.randint(-2, 2), dice.randint(0, 10_000), None])
+
+
+def leave_out(dice, record):
+    for _ in range(dice.randint(1, 3)):
+        record.amounts[dice.randrange(READINGS)] = None
+
+
+RECORD_MAKERS = [plain_record, exact_balance, near_balance, near_balance, exact_conductivity, near_conductivity]
+
+
+def random_record(dice):
+    record = dice.choice(RECORD_MAKERS)(dice)
+    for vary, chance in ((vary_ratio, 0.1), (vary_nitrogen, 0.5), (vary_carbon, 0.5), (leave_out, 0.15)):
+        if dice.random() < chance:
+            vary(dice, record)
+    if dice.random() < 0.3:
+        record.kind = random_kind(dice)
+    return record
+
+
+def random_pattern_of(dice, mark, bits):
+    """A pattern near to this one that gives the same amount."""
+    other = bits + dice.randint(-40, 40)
+    is_same = 0 <= other < WORDS and is_reading(mark, other) and amount_of(mark, other) == amount_of(mark, bits)
+    return other if is_same else bits
+
+
+def random_words_of(dice, record):
+    """The words of a record, some of its readings below where half a limit reaches them."""
+    share = dice.choice([0, 0, 0.3])
+    marks = []
+    for amount in record.amounts:
+        is_below = amount is not None and 2 * amount <= GREATEST_AMOUNT and dice.random() < share
+        marks.append(BELOW if is_below else MEASURED)
+    words = words_of(record, marks)
+    ion = dice.randrange(READINGS)
+    mark, bits = words[5 + 2 * ion], words[6 + 2 * ion]
+    return with_reading(words, ion, mark, random_pattern_of(dice, mark, bits))
+
+
+def random_damage(dice, words):
+    kind = dice.randrange(4)
+    if kind == 0:
+        return (2 * words)[: dice.choice([0, 5, 23, 24, 26, 27, 31])]
+    if kind == 1:
+        word = dice.choice([0, 7, 199, 1_001, 100_001, 200_001, 10**6, dice.randrange(WORDS)])
+        return with_word(words, dice.randrange(5), word)
+    if kind == 2:
+        return with_reading(words, dice.randrange(READINGS), random_mark(dice), random_pattern(dice))
+    return dice.choice(list(DAMAGES.values()))(words)
+
+
+def perhaps_damaged(dice, words, chance):
+    if dice.random() < chance:
+        words = random_damage(dice, words)
+        if dice.random() < 0.3 and len(words) == RECORD_WORDS:
+            words = random_damage(dice, words)
+    return words
+
+
+def random_judge(dice):
+    return (JUDGE, *perhaps_damaged(dice, random_words_of(dice, random_record(dice)), 0.1))
+
+
+def apart(dice, x, most):
+    """A number as far from x as agreement allows, or nearly so; or x itself."""
+    y = dice.choice([x, x, x - x // 10, -(-10 * x // 9)])
+    return min(max(y + dice.choice([0, 0, 0, 0, -1, 1]), 0), most)
+
+
+def repeat_of(dice, record):
+    p = min(max(record.p + dice.choice([0, 0, dice.randint(-11, 11)]), LEAST_PH), GREATEST_PH)
+    conductivity = max(1, apart(dice, record.conductivity, GREATEST_CONDUCTIVITY))
+    alkalinity = apart(dice, record.alkalinity, GREATEST_ALKALINITY)
+    changed = set(dice.sample(range(READINGS), dice.choice([0, 1, 2, READINGS])))
+    amounts = list(record.amounts)
+    for ion in changed:
+        if amounts[ion] is not None:
+            amounts[ion] = apart(dice, amounts[ion], GREATEST_AMOUNT)
+    if dice.random() < 0.1:
+        ion = dice.randrange(READINGS)
+        amounts[ion] = 0 if amounts[ion] is None else None
+    return replace(record, p=p, conductivity=conductivity, alkalinity=alkalinity, amounts=amounts)
+
+
+def random_agree(dice):
+    record = dice.choice([plain_record, plain_record, near_balance])(dice)
+    if dice.random() < 0.2:
+        leave_out(dice, record)
+    pair = [record, repeat_of(dice, record)]
+    dice.shuffle(pair)
+    first, second = (perhaps_damaged(dice, random_words_of(dice, one), 0.06) for one in pair)
+    return pair_of(first, second)
+
+
 def random_case(dice):
-    kind = dice.randrange(20)
+    kind = dice.randrange(40)
     if kind == 0:
         return NUMBER, dice.randint(1, REFUSALS)
     if kind < 4:
         return random_floor(dice)
-    if kind < 9:
+    if kind < 8:
         return random_analysis(dice)
-    return random_reading(dice)
+    if kind < 14:
+        return random_reading(dice)
+    return random_judge(dice) if kind < 30 else random_agree(dice)
 
 
 def damaged_inputs():
     """Inputs that end in `malformed`, each after a good case and before another that must not be answered."""
     good = input_of([(FLOOR, 530)])
-    for case in [(0, 1), (7, 1), (2**32 - 1, 1), (NUMBER, 0), (NUMBER, REFUSALS + 1)]:
+    calls = [(0, 1), (max(CALLS) + 1, 1), (2**32 - 1, 1), (NUMBER, 0), (NUMBER, REFUSALS + 1)]
+    agreements = [(AGREE,), (AGREE, 1), (AGREE, 2**32 - 1, 1), (AGREE, RECORD_WORDS + 1, *SAMPLE)]
+    agreements += [(AGREE, *[MOST_WORDS] * MOST_WORDS)]
+    for case in calls + agreements:
         yield good + input_of([case]) + good
     for call, (arity, _) in CALLS.items():
         for count in (0, 1, 2, 3, MOST_WORDS):
-            if count != arity:
+            if arity is not ANY and count != arity:
                 yield good + input_of([(call, *[1] * count)]) + good
     for count in (MOST_WORDS + 1, 2**31, 2**32 - 1):
         yield good + packed([FROM_WORDS, count]) + packed([1] * 80)
@@ -412,7 +1301,9 @@ def compare_damaged():
 def compare(count, seed):
     print(f"seed {seed}")
     dice = random.Random(seed)
-    cases = [random_case(dice) for _ in range(count)]
+    balances, conductivities = undecided_records(dice)
+    cases = [(JUDGE, *words_of(record)) for record in balances + conductivities]
+    cases += [random_case(dice) for _ in range(count)]
     data = input_of(cases)
     expected = lines_of(data)
     printed = run(data)
@@ -425,7 +1316,8 @@ def compare(count, seed):
         call, *words = cases[place]
         shown = " ".join(f"{word:#x}" for word in words)
         print(f"call {call} of {shown}: '{expected[place]}' expected, '{printed[place]}' printed")
-    print(f"{count} compared, {len(differ)} differ")
+    print(f"{len(cases)} compared, {len(differ)} differ")
+    print_tally(expected)
     return is_good and not differ
 
 

@@ -1,18 +1,31 @@
 -- Every case of the table holds: one test for each kind of case, computed over the whole table, and one law that turns it into the case.
-use mathlib.Core.Path.{_≡_, ap, _∙_}
-use mathlib.Core.Bool.{Bool, true, _&&_}
+use mathlib.Core.Path.{_≡_, refl, sym, ap, _∙_}
+use mathlib.Core.Bool.{Bool, true, _&&_, true≢false}
 use mathlib.Core.List.{List, [], _∷_}
-use Prim.Native.Nat.{ℕ, _+_, _^_, _≤_, _<_}
+use Prim.Native.Nat.{ℕ, _+_, _^_}
 use lib.Dec.{T, leb, ltb, eqb, leb→le, ltb→lt, eqb→eq}
 use lib.Ieee.{Float, binary32, ofBits}
 use lib.Ieee.Bits.{is-true}
 use lib.Ieee.Fits.{and-l, and-r}
-use Rattle.refusal.specs.Outcome.Outcome.{given}
+use Rattle.refusal.specs.Outcome.{Outcome}
+use Rattle.refusal.specs.Outcome.Outcome.{given, refused}
 use Rattle.hydrogen.specs.Floors.{leastPh, greatestPh, power, floorAt, floorOf}
 use Rattle.hydrogen.proofs.Laws.{floor-in-range, floor-is}
 use Rattle.reading.specs.Ranges.{inRange, isValue}
+use Rattle.reading.specs.Readings.{missingFrom, measuredFrom, readingOf}
 use Rattle.reading.specs.Amounts.{Amount, nearest, valueMass, valueAmount}
-use Rattle.cases.specs.Cases.{Case, Holds, cases, Settled}
+use Rattle.judge.specs.Record.{phOf, conductivityOf, alkalinityOf, readAt, readingAt, massOf, isGiven, allBelow, accepted, acceptedRest}
+use Rattle.judge.specs.Ions.{cationFactor, anionFactor, conductance, sum}
+use Rattle.judge.specs.Choices.{Ranges}
+use Rattle.judge.specs.Verdicts.{applied}
+use Rattle.judge.specs.Corners.{decided, passesOf}
+use Rattle.judge.specs.Ranges.{massAt, isWhole, ionsKnown}
+use Rattle.judge.specs.IonBalance.{balanceApplies, balanceAppliesTo, balanceLimit, balanceCheck}
+use Rattle.judge.specs.Conductivity.{conductivityLimit, conductivityCheck, measuredOf}
+use Rattle.judge.specs.Judgements.{verdictsOf, judgementOf}
+use Rattle.judge.proofs.AcceptedLaws.{Valid, accepted-given}
+use Rattle.judge.proofs.Laws.{valid-judged}
+use Rattle.cases.specs.Cases.{Case, bare, printed, balanceIn, conductivityIn, Holds, cases, Settled}
 
 -- h is the greatest number whose hundredth power is at most that of H
 abbrev isFloor : ℕ → ℕ → Bool
@@ -21,30 +34,82 @@ isFloor p h = leb (h ^ 100) (power p) && ltb (power p) ((h + 1) ^ 100)
 abbrev inPhRange : ℕ → Bool
 inPhRange p = leb leastPh p && leb p greatestPh
 
+floor-is-at : (p h : ℕ) → T (isFloor p h) → floorAt p ≡ h
+floor-is-at p h t =
+    let low : Bool = leb (h ^ 100) (power p) in
+    let high : Bool = ltb (power p) ((h + 1) ^ 100) in
+    floor-is p h (leb→le (h ^ 100) (power p) (and-l low high t)) (ltb→lt (power p) ((h + 1) ^ 100) (and-r low high t))
+
 floor-case : (p h : ℕ) → T (inPhRange p && isFloor p h) → floorOf p ≡ given h
-floor-case p h t = floor-in-range p (leb→le leastPh p (and-l (leb leastPh p) (leb p greatestPh) r)) (leb→le p greatestPh (and-r (leb leastPh p) (leb p greatestPh) r)) ∙ ap given is
-  where
-    r : T (inPhRange p)
-    r = and-l (inPhRange p) (isFloor p h) t
-
-    f : T (isFloor p h)
-    f = and-r (inPhRange p) (isFloor p h) t
-
-    is : floorAt p ≡ h
-    is = floor-is p h (leb→le (h ^ 100) (power p) (and-l (leb (h ^ 100) (power p)) (ltb (power p) ((h + 1) ^ 100)) f)) (ltb→lt (power p) ((h + 1) ^ 100) (and-r (leb (h ^ 100) (power p)) (ltb (power p) ((h + 1) ^ 100)) f))
+floor-case p h t =
+    let r = and-l (inPhRange p) (isFloor p h) t in
+    floor-in-range p (leb→le leastPh p (and-l (leb leastPh p) (leb p greatestPh) r)) (leb→le p greatestPh (and-r (leb leastPh p) (leb p greatestPh) r))
+    ∙ ap given (floor-is-at p h (and-r (inPhRange p) (isFloor p h) t))
 
 -- x is in range, and its amount is m
 amount-case : (x : Float) (m : ℕ) → T (isValue x && eqb (valueMass x) m) → valueAmount x ≡ given (Amount.mass m)
 unfolding valueAmount
 amount-case x m t = rw (is-true (isValue x) (and-l (isValue x) (eqb (valueMass x) m) t), eqb→eq (valueMass x) m (and-r (isValue x) (eqb (valueMass x) m) t))
 
+-- both kinds of record have p 500, whose floor is 10^10. The check's verdict with a floor in place of the definition's, which is never computed
+abbrev floor500 : ℕ
+floor500 = 10_000_000_000
+
+abbrev at : List ℕ → Ranges
+at s = record { least = massAt s; greatest = massAt s; floor = floor500; whole = isWhole (phOf s) }
+
+abbrev balanceAt : List ℕ → ℕ
+balanceAt s = applied (balanceAppliesTo s) (ionsKnown s) (passesOf (balanceCheck (balanceLimit (conductivityOf s)) (alkalinityOf s)) (at s))
+
+abbrev conductivityAt : List ℕ → ℕ
+conductivityAt s =
+    applied true (ionsKnown s) (passesOf (conductivityCheck (conductivityLimit (conductivityOf s)) (alkalinityOf s) (measuredOf (conductivityOf s))) (at s))
+
+abbrev nothing : Outcome ℕ
+nothing = given 0
+
+-- the record's own tests accept it, and its pH is 5
+abbrev isAccepted : List ℕ → Bool
+isAccepted s = isGiven (accepted s nothing) && (eqb (phOf s) 500 && isFloor 500 floor500)
+
+module _ (s : List ℕ) (t : T (isAccepted s)) where
+  rest : T (eqb (phOf s) 500 && isFloor 500 floor500)
+  rest = and-r (isGiven (accepted s nothing)) (eqb (phOf s) 500 && isFloor 500 floor500) t
+
+  judged : judgementOf s ≡ given (verdictsOf s)
+  judged = valid-judged s (was-accepted (accepted s nothing) refl (is-true _ (and-l (isGiven (accepted s nothing)) (eqb (phOf s) 500 && isFloor 500 floor500) t)))
+    where
+      was-accepted : (o : Outcome ℕ) → accepted s nothing ≡ o → isGiven o ≡ true → Valid s
+      was-accepted (given x) e h = accepted-given s nothing x e .0
+      was-accepted (refused n) e h = absurd (true≢false (sym h))
+
+  floor-at : floorAt (phOf s) ≡ floor500
+  floor-at =
+      ap floorAt (eqb→eq (phOf s) 500 (and-l (eqb (phOf s) 500) (isFloor 500 floor500) rest))
+      ∙ floor-is-at 500 floor500 (and-r (eqb (phOf s) 500) (isFloor 500 floor500) rest)
+
+  balance-case : (v : ℕ) → T (eqb (balanceAt s) v) → balanceIn (judgementOf s) ≡ given v
+  balance-case v e = ap balanceIn judged ∙ ap given (rw floor-at (eqb→eq (balanceAt s) v e))
+
+  conductivity-case : (v : ℕ) → T (eqb (conductivityAt s) v) → conductivityIn (judgementOf s) ≡ given v
+  conductivity-case v e = ap conductivityIn judged ∙ ap given (rw floor-at (eqb→eq (conductivityAt s) v e))
+
+-- ---- the table
 abbrev test : Case → Bool
 test (Case.floor p h) = inPhRange p && isFloor p h
 test (Case.amount bits m) = isValue (ofBits binary32 bits) && eqb (valueMass (ofBits binary32 bits)) m
+test (Case.balance measured alkalinity v) = isAccepted (bare measured alkalinity) && eqb (balanceAt (bare measured alkalinity)) v
+test (Case.conductivity measured v) = isAccepted (printed measured) && eqb (conductivityAt (printed measured)) v
 
 holds : (c : Case) → T (test c) → Holds c
 holds (Case.floor p h) t = floor-case p h t
 holds (Case.amount bits m) t = amount-case (ofBits binary32 bits) m t
+holds (Case.balance measured alkalinity v) t =
+    let s : List ℕ = bare measured alkalinity in
+    balance-case s (and-l (isAccepted s) (eqb (balanceAt s) v) t) v (and-r (isAccepted s) (eqb (balanceAt s) v) t)
+holds (Case.conductivity measured v) t =
+    let s : List ℕ = printed measured in
+    conductivity-case s (and-l (isAccepted s) (eqb (conductivityAt s) v) t) v (and-r (isAccepted s) (eqb (conductivityAt s) v) t)
 
 abbrev tests : List Case → Bool
 tests [] = true
@@ -55,5 +120,5 @@ settle [] t = tt
 settle (c ∷ cs) t = (holds c (and-l (test c) (tests cs) t), settle cs (and-r (test c) (tests cs) t))
 
 pub settled : Settled cases
-unfolding cases power inRange valueMass nearest ofBits
+unfolding cases power inRange valueMass nearest ofBits accepted acceptedRest allBelow readAt readingAt readingOf missingFrom measuredFrom massOf valueAmount sum cationFactor anionFactor conductance balanceApplies balanceLimit conductivityLimit decided
 settled = settle cases tt

@@ -16,8 +16,8 @@ use Rattle.reading.specs.declared.Reading.{Reading}
 use Rattle.hydrogen.specs.Floors.{leastPh, greatestPh}
 use Rattle.judge.specs.Record.{recordWords, sampleNumber, kindOf, phOf, conductivityOf, alkalinityOf, readings, readAt, isGiven, allBelow, between, orMissing, readingAt, acceptedRest, accepted}
 use Rattle.judge.proofs.AllBelow.{all-each, each-all}
-use Rattle.judge.proofs.Testing.{in-between, is-between}
-use Rattle.judge.proofs.Rows.{row, Pass, row-given, row-refused}
+use Rattle.judge.proofs.BetweenLaws.{in-between, is-between}
+use Rattle.refusal.proofs.Rows.{row, Pass, row-given, row-refused}
 
 -- the facts that the seven tests establish
 pub record Valid (s : List ℕ) : Type 0 where

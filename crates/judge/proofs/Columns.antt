@@ -9,7 +9,7 @@ use borrow.Author.Tests.{eqb-true, leb-true}
 use Rattle.judge.specs.Record.{allBelow}
 use Rattle.judge.specs.Ions.{ions, cationFactor, anionFactor, conductance}
 use Rattle.judge.proofs.AllBelow.{all-each}
-use Rattle.judge.proofs.Testing.{both}
+use Rattle.refusal.proofs.Testing.{both}
 
 -- x is the definition's entry, and at most `most`
 pub record Entry (x y most : ℕ) : Type 0 where

@@ -1,9 +1,8 @@
 -- For the crates above: what a judgement and an agreement tell of the records they were given for.
-use mathlib.Core.Path.{_≡_, sym, _∙_}
+use mathlib.Core.Path.{_≡_, _∙_}
 use mathlib.Core.Bool.{Bool}
 use mathlib.Core.List.{List}
 use Prim.Native.Nat.{ℕ, _≤_}
-use native.Mathlib.Omega.{arith}
 use lib.Dec.{lit≤}
 use lib.ListN.{length}
 use Rattle.refusal.specs.Outcome.Outcome.{given}
@@ -38,8 +37,7 @@ module _ (s : List ℕ) (v : Four) (judged : judgementOf s ≡ given v) where
 
 -- an accepted record is judged
 pub valid-judged : (s : List ℕ) → Valid s → judgementOf s ≡ given (verdictsOf s)
-unfolding judgementOf
-valid-judged s valid = valid-accepted s (given (verdictsOf s)) valid
+valid-judged s valid = judging.judged s valid
 
 -- an agreement is told of accepted records only
 pub compared-valid : (s t : List ℕ) (b : Bool) → agreementOf s t ≡ given b → Valid s × Valid t × (b ≡ agrees s t)

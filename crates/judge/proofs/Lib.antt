@@ -1,9 +1,8 @@
 -- The laws behind this crate's contracts. Other crates cite `AcceptedLaws` and `Laws`, and nothing else of it.
 mod AllBelow
-mod Testing
-mod Rows
-mod TestedLaws
+mod BetweenLaws
 pub mod AcceptedLaws
+mod TestedLaws
 mod Columns
 mod SumLaws
 mod IonLaws

@@ -1,5 +1,5 @@
 -- Document 01, 'The docket': when two records agree.
-use mathlib.Core.Bool.{Bool, true, false, cond, not, _&&_}
+use mathlib.Core.Bool.{Bool, true, false, cond, not}
 use mathlib.Core.List.{List}
 use Prim.Native.Nat.{ℕ, _*_, max}
 use lib.Dec.{leb}

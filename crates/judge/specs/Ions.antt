@@ -1,6 +1,6 @@
 -- Document 01, 'Charge and conductance': the table of the ions, a column for each side of the balance and one for conductance.
 -- Readings in document 01's order: NH4-N, Ca, Mg, Na, K, SO4-S, NO3-N, Cl, TN, DOC.
-use mathlib.Core.List.{List, [], _∷_}
+use mathlib.Core.List.{[], _∷_}
 use Prim.Native.Nat.{ℕ, zero, suc, _+_, _*_, _^_}
 use lib.ListN.{getD}
 

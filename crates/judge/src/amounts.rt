@@ -5,7 +5,7 @@ use reading::AmountResult;
 use reading::Mass;
 use reading::Reading;
 ghost use mathlib.Core.Path.{_≡_};
-ghost use Prim.Native.Nat.{_≤_};
+ghost use Prim.Native.Nat.{_+_, _≤_};
 ghost use lib.ListN.{length};
 ghost use Rattle.judge.specs.Record.{recordWords, present, massOf};
 ghost use Rattle.judge.specs.Ranges.{ionsKnown};
@@ -20,6 +20,14 @@ pub fn mass(r: Reading) -> Mass
         AmountResult::Given(m) => m,
         AmountResult::Refused(_) => Mass(0),
     }
+}
+
+// A mass is added to a mass alone.
+pub fn plus(a: Mass, b: Mass) -> Mass
+    requires { ⌜ (a .0 ≤ 200_000) × (b .0 ≤ 200_000) ⌝ }
+    ensures { λ r. ⌜ r .0 ≡ a .0 + b .0 ⌝ }
+{
+    Mass(a.0 + b.0)
 }
 
 pub fn is_present(r: Reading) -> bool

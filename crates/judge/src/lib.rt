@@ -16,6 +16,7 @@ use refusal::Refusal;
 ghost use mathlib.Core.Path.{_≡_};
 ghost use Rattle.refusal.specs.Outcome.Outcome.{given};
 ghost use Rattle.judge.specs.Record.{sameSampleOf};
+ghost use Rattle.judge.specs.Verdicts.{verdictNumber};
 ghost use Rattle.judge.specs.Judgements.{Four, judgementOutcome, judgementOf};
 ghost use Rattle.judge.specs.Truth.{Truth};
 ghost use Rattle.judge.specs.Agreement.{agreementOutcome, agreementOf};
@@ -36,6 +37,21 @@ pub enum Verdict {
     Outside,
     Undecided,
     Missing,
+}
+
+impl Verdict {
+    // The paper's number of a verdict.
+    pub fn number(self) -> u32
+        ensures { λ r. ⌜ r ≡ verdictNumber self ⌝ }
+    {
+        match self {
+            Verdict::NotApplicable => 0,
+            Verdict::Within => 1,
+            Verdict::Outside => 2,
+            Verdict::Undecided => 3,
+            Verdict::Missing => 4,
+        }
+    }
 }
 
 // The verdicts of the four checks: ion balance, conductivity, sodium/chloride ratio and nitrogen.

@@ -40,8 +40,8 @@ fn of_readings(total: Reading, nitrate: Reading, ammonium: Reading) -> Verdict
     if !amounts::is_present(ammonium) {
         return Verdict::Missing;
     }
-    let mineral = amounts::mass(nitrate).0 + amounts::mass(ammonium).0;
-    verdict(Mass(mineral), amounts::mass(total))
+    let mineral = amounts::plus(amounts::mass(nitrate), amounts::mass(ammonium));
+    verdict(mineral, amounts::mass(total))
 }
 
 // At most all of it.

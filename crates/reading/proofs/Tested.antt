@@ -1,20 +1,10 @@
--- What the code's `if !test { return refusal }` leaves, against the definition that gives a value unless the test fails.
-use mathlib.Core.Path.{_≡_, refl, sym, _∙_}
-use mathlib.Core.Bool.{Bool, true, false, not}
+-- The definition that gives a value unless a test fails: what it is by the test, and what its answer tells.
+use mathlib.Core.Path.{_≡_, refl}
+use mathlib.Core.Bool.{Bool, true, false}
 use Prim.Native.Nat.{ℕ}
 use native.Mathlib.Omega.{arith}
-use borrow.Author.Tests.{not-true, not-false}
-use Rattle.refusal.specs.Outcome.{Outcome}
 use Rattle.refusal.specs.Outcome.Outcome.{given, refused}
 use Rattle.reading.specs.Readings.{unless7}
-
--- the code's answer r is the test t
-module _ {r t : Bool} (e : r ≡ t) where
-  pub failed : not r ≡ true → t ≡ false
-  failed n = sym e ∙ not-true r n
-
-  pub passed : not r ≡ false → t ≡ true
-  passed n = sym e ∙ not-false r n
 
 module _ {A : Type 0} (x : A) where
   pub refuses : {t : Bool} → t ≡ false → refused 7 ≡ unless7 t x

@@ -1,21 +1,20 @@
 -- The laws of a record's words: ranges of bits, readings in range, and reading and writing undo each other.
-use mathlib.Core.Path.{_≡_, refl, sym, ap, _∙_, subst}
-use mathlib.Core.Bool.{Bool, true, cond}
+use mathlib.Core.Path.{_≡_, subst}
+use mathlib.Core.Bool.{true}
 use Prim.Native.Nat.{ℕ, _^_, _<_}
 use native.Mathlib.Decide.{ℕ-discrete}
-use lib.Dec.{T, eqb}
-use lib.Ieee.{binary32, ofBits, toBits, fits}
-use lib.Ieee.Bits.{ofBits-toBits, toBits-ofBits, ofBits-fits}
+use lib.Dec.{eqb}
+use lib.Ieee.{binary32, ofBits, toBits}
+use lib.Ieee.Bits.{ofBits-toBits, toBits-ofBits}
 use borrow.Author.Tests.{eq-eqb, ne-eqb, eqb-true}
-use Rattle.refusal.specs.Outcome.{Outcome}
-use Rattle.refusal.specs.Outcome.Outcome.{given, refused}
+use Rattle.refusal.specs.Outcome.Outcome.{given}
 use Rattle.reading.specs.declared.Reading.{Reading}
 use Rattle.reading.specs.declared.Reading.the-variants.{Missing, Measured, Below}
 use Rattle.reading.specs.declared.Words.{Words}
 use Rattle.reading.specs.Ranges.{isValue, isLimit}
 use Rattle.reading.specs.Readings.{missingFrom, measuredFrom, belowFrom, readingOf, wordsOf, IsF32, InRange, WordLaws}
-use Rattle.reading.proofs.RangeLaws.{value-pattern, limit-pattern, of-pattern, not-nan}
-use Rattle.reading.proofs.Tested.{was-given, never-given, gives}
+use Rattle.reading.proofs.RangeLaws.{value-pattern, limit-pattern, not-nan}
+use Rattle.reading.proofs.Tested.{was-given, never-given}
 
 -- ---- what two words that were read held
 pub data ReadFrom (mark bits : ℕ) : Reading → Type 0 where

@@ -2,6 +2,7 @@
 // not what it takes.
 use crate::floors;
 use crate::readings;
+use crate::records;
 use crate::refusals;
 
 pub fn answer(call: u32, words: &[u32]) -> bool {
@@ -12,6 +13,8 @@ pub fn answer(call: u32, words: &[u32]) -> bool {
         4 => readings::amount(words),
         5 => readings::words(words),
         6 => refusals::number(words),
+        7 => records::judge(words),
+        8 => records::agree(words),
         _ => false,
     }
 }

@@ -7,6 +7,7 @@ mod floors;
 mod input;
 mod print;
 mod readings;
+mod records;
 mod refusals;
 
 use input::Got;

@@ -20,11 +20,18 @@ pub fn word(before: &[u8], n: u32) {
     number(before, n as u64);
 }
 
-// A line of text and two numbers.
-pub fn two_words(before: &[u8], first: u32, second: u32) {
+// Text and two numbers, and no end of the line.
+pub fn two_numbers(before: &[u8], first: u32, second: u32) {
     io::write_all(STDOUT_FILENO, before);
     io::print_decimal(STDOUT_FILENO, first as u64);
-    word(b" ", second);
+    io::write_all(STDOUT_FILENO, b" ");
+    io::print_decimal(STDOUT_FILENO, second as u64);
+}
+
+// A line of text and two numbers.
+pub fn two_words(before: &[u8], first: u32, second: u32) {
+    two_numbers(before, first, second);
+    io::write_all(STDOUT_FILENO, b"\n");
 }
 
 pub fn refused(why: Refusal) {

@@ -6,7 +6,7 @@ use native.Mathlib.Omega.{arith}
 use Rattle.judge.specs.Record.{readingAt, present, allBelow}
 use Rattle.judge.specs.Ions.{ions}
 use Rattle.judge.proofs.AllBelow.{all-none, all-more, all-fails}
-use Rattle.judge.proofs.Testing.{failed, passed}
+use Rattle.refusal.proofs.Testing.{failed, passed}
 use borrow.Author.Needs.{needs}
 use Rattle.judge.proofs.amounts.ions_known.Statement.{statement}
 use Rattle.judge.proofs.amounts.ions_known.Tie as tie

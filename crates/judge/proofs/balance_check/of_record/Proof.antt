@@ -1,13 +1,12 @@
 -- Each return is what the definition gives by the tests on the way; the charges are far below 64 bits.
-use mathlib.Core.Path.{_≡_, sym, ap, _∙_}
-use Prim.Native.Nat.{ℕ, _+_, _≤_, _<_}
+use mathlib.Core.Path.{_≡_, ap, _∙_}
+use Prim.Native.Nat.{ℕ, _+_}
 use native.Mathlib.Omega.{arith}
 use denote.Ref.{now}
 use Rattle.reading.specs.declared.Reading.{Reading}
-use Rattle.judge.specs.Record.{kindOf, alkalinityOf, present, massOf}
-use Rattle.judge.specs.Ions.{alkalinityCharge}
+use Rattle.judge.specs.Record.{kindOf, present, massOf}
 use Rattle.judge.specs.IonBalance.{balanceApplies, balanceAppliesTo}
-use Rattle.judge.proofs.Testing.{failed, passed}
+use Rattle.refusal.proofs.Testing.{failed, passed}
 use Rattle.judge.proofs.IonLaws.{cations-most, anions-most}
 use Rattle.judge.proofs.CheckInputs.{gap-most, balance-of}
 use borrow.Author.Needs.{needs}

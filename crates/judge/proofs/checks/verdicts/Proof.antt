@@ -1,8 +1,6 @@
 -- Each check is handed what was prepared from the words, and its verdict is the definition's.
-use mathlib.Core.Path.{_≡_, ap, _∙_}
 use native.Mathlib.Omega.{arith}
 use borrow.Author.Needs.{needs}
-use Rattle.judge.specs.Prepared.{Prepared}
 use Rattle.judge.proofs.checks.verdicts.Statement.{statement}
 use Rattle.judge.proofs.checks.verdicts.Tie as tie
 

@@ -1,7 +1,7 @@
 -- Each return is what the definition picks by the tests that led there; a word of a record is below 2^32.
 use native.Mathlib.Omega.{arith}
 use Rattle.judge.specs.Agreement.{agrees}
-use Rattle.judge.proofs.Testing.{failed, passed}
+use Rattle.refusal.proofs.Testing.{failed, passed}
 use borrow.Author.Needs.{needs}
 use Rattle.judge.proofs.comparison.agrees.Statement.{statement}
 use Rattle.judge.proofs.comparison.agrees.Tie as tie

@@ -7,7 +7,7 @@ use Rattle.judge.specs.Record.{allBelow}
 use Rattle.judge.specs.Ions.{ions}
 use Rattle.judge.specs.Agreement.{ionAgrees}
 use Rattle.judge.proofs.AllBelow.{all-none, all-more, all-fails}
-use Rattle.judge.proofs.Testing.{failed, passed}
+use Rattle.refusal.proofs.Testing.{failed, passed}
 use borrow.Author.Needs.{needs}
 use Rattle.judge.proofs.comparison.ions_agree.Statement.{statement}
 use Rattle.judge.proofs.comparison.ions_agree.Tie as tie

@@ -2,7 +2,7 @@
 use mathlib.Core.Path.{ap, _∙_}
 use mathlib.Core.Bool.{not}
 use Rattle.judge.specs.Agreement.{readingAgrees}
-use Rattle.judge.proofs.Testing.{failed, passed}
+use Rattle.refusal.proofs.Testing.{failed, passed}
 use borrow.Author.Needs.{needs}
 use Rattle.judge.proofs.comparison.readings_agree.Statement.{statement}
 use Rattle.judge.proofs.comparison.readings_agree.Tie as tie

@@ -1,10 +1,10 @@
 -- Each return is what the definition gives by the tests on the way; the conductivities fit 64 bits.
-use mathlib.Core.Path.{_≡_, sym, ap, _∙_}
-use Prim.Native.Nat.{ℕ, _+_, _*_, _≤_, _<_}
+use mathlib.Core.Path.{ap, _∙_}
+use Prim.Native.Nat.{ℕ, _+_, _*_}
 use native.Mathlib.Omega.{arith}
 use denote.Ref.{now}
 use Rattle.judge.specs.Ions.{alkalinityConductance}
-use Rattle.judge.proofs.Testing.{failed, passed}
+use Rattle.refusal.proofs.Testing.{failed, passed}
 use Rattle.judge.proofs.IonLaws.{conducted-most}
 use Rattle.judge.proofs.CheckInputs.{gap-most, conductivity-of}
 use borrow.Author.Needs.{needs}

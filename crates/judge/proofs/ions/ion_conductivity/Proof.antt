@@ -1,5 +1,5 @@
 -- The column's entry is the definition's, and the product fits.
-use mathlib.Core.Path.{_≡_, ap}
+use mathlib.Core.Path.{ap}
 use Prim.Native.Nat.{ℕ, _*_}
 use native.Mathlib.Nat.{mul-le-mul}
 use lib.ListN.{getD}

@@ -1,9 +1,9 @@
 -- Each return is what the definition gives by the tests on the way.
-use mathlib.Core.Path.{_≡_, ap₂, _∙_}
+use mathlib.Core.Path.{ap₂, _∙_}
 use Prim.Native.Nat.{ℕ, _+_}
 use native.Mathlib.Omega.{arith}
 use Rattle.judge.specs.Ratios.{nitrogenWindow}
-use Rattle.judge.proofs.Testing.{failed, passed}
+use Rattle.refusal.proofs.Testing.{failed, passed}
 use Rattle.judge.proofs.Deciding.{same-sums}
 use borrow.Author.Needs.{needs}
 use Rattle.judge.proofs.nitrogen_check.of_readings.Statement.{statement}
@@ -38,19 +38,20 @@ mass-requires c κs = search needs
 mass-requires-2 : tie.Need-mass-requires-2
 mass-requires-2 c κs = search needs
 
-add-mineral : tie.Need-add-mineral
-add-mineral c = omega (arith, c .before .before .mass2 .ensures .1, c .before .before .before .mass .ensures .1)
+plus-requires : tie.Need-plus-requires
+plus-requires c κs = (c .before .mass .ensures .1, c .mass2 .ensures .1)
 
 mass-requires-3 : tie.Need-mass-requires-3
 mass-requires-3 c κs = search needs
 
 verdict-requires : tie.Need-verdict-requires
-verdict-requires c κs = (omega (arith, c .before .before .before .mass2 .ensures .1, c .before .before .before .before .mass .ensures .1), c .mass3 .ensures .1)
+verdict-requires c κs = (omega (arith, c .before .plus .ensures, c .before .before .mass2 .ensures .1, c .before .before .before .mass .ensures .1), c .mass3 .ensures .1)
 
 returns-4 : tie.Need-returns-4
-returns-4 c = let three = c .before .before .before .before .before .before in
+returns-4 c =
+    let three = c .before .before .before .before .before in
     let two = three .before .before in
-    let sum = ap₂ (λ (x y : ℕ). x + y) (c .before .before .before .before .before .mass .ensures .0) (c .before .before .before .before .mass2 .ensures .0) in
+    let sum = c .before .before .plus .ensures ∙ ap₂ (λ (x y : ℕ). x + y) (c .before .before .before .before .mass .ensures .0) (c .before .before .before .mass2 .ensures .0) in
     simp (
       passed (two .before .before .before .is-present .ensures) (two .before .before .if1 .left),
       passed (two .before .is-present2 .ensures) (two .if2 .left),
@@ -70,7 +71,7 @@ of-readings-spec =
     returns-3
     mass-requires
     mass-requires-2
-    add-mineral
+    plus-requires
     mass-requires-3
     verdict-requires
     returns-4)

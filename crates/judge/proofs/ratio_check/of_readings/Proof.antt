@@ -1,12 +1,12 @@
 -- Each return is what the definition gives by the tests on the way.
-use mathlib.Core.Path.{_≡_, sym, ap, _∙_}
+use mathlib.Core.Path.{sym, ap, _∙_}
 use Prim.Native.Nat.{ℕ, _*_}
 use native.Mathlib.Omega.{arith}
 use borrow.Author.Tests.{eq-eqb, ne-eqb, le-leb, lt-leb}
 use Rattle.judge.specs.Record.{massOf}
 use Rattle.judge.specs.Ions.{sodium, chloride, cationCharge, anionCharge}
 use Rattle.judge.specs.Ratios.{sodiumChlorideWindow}
-use Rattle.judge.proofs.Testing.{failed, passed}
+use Rattle.refusal.proofs.Testing.{failed, passed}
 use Rattle.judge.proofs.Deciding.{same-sums}
 use borrow.Author.Needs.{needs}
 use Rattle.judge.proofs.ratio_check.of_readings.Statement.{statement}

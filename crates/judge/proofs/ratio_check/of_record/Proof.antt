@@ -1,5 +1,5 @@
 -- The readings handed over are the record's.
-use mathlib.Core.Path.{_≡_, ap₂, _∙_}
+use mathlib.Core.Path.{ap₂, _∙_}
 use native.Mathlib.Omega.{arith}
 use denote.Ref.{now}
 use Rattle.reading.specs.declared.Reading.{Reading}

@@ -5,7 +5,7 @@ use Prim.Native.Nat.{_-_, _≤_}
 use native.Mathlib.Omega.{arith}
 use Rattle.judge.specs.Record.{readings, readAt, isGiven, allBelow}
 use Rattle.judge.proofs.AllBelow.{all-none, all-more, all-fails}
-use Rattle.judge.proofs.Testing.{failed, passed}
+use Rattle.refusal.proofs.Testing.{failed, passed}
 use borrow.Author.Needs.{needs}
 use Rattle.judge.proofs.record.all_readings.Statement.{statement}
 use Rattle.judge.proofs.record.all_readings.Tie as tie

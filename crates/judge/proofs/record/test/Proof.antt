@@ -5,7 +5,8 @@ use Rattle.hydrogen.specs.Answers.{floorOutcome}
 use Rattle.hydrogen.specs.Floors.{leastPh, greatestPh}
 use Rattle.hydrogen.proofs.Laws.{floor-given, floor-refused}
 use Rattle.judge.specs.Record.{accepted}
-use Rattle.judge.proofs.Testing.{failed, passed, is-between, is-outside}
+use Rattle.refusal.proofs.Testing.{failed, passed}
+use Rattle.judge.proofs.BetweenLaws.{is-between, is-outside}
 use borrow.Author.Needs.{needs}
 use Rattle.judge.proofs.record.test.Statement.{statement}
 use Rattle.judge.proofs.record.test.Tie as tie

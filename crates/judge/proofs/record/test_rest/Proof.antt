@@ -1,6 +1,6 @@
 -- Each return is what the definition picks by the tests that led there.
 use Rattle.judge.specs.Record.{acceptedRest}
-use Rattle.judge.proofs.Testing.{failed, passed}
+use Rattle.refusal.proofs.Testing.{failed, passed}
 use borrow.Author.Needs.{needs}
 use Rattle.judge.proofs.record.test_rest.Statement.{statement}
 use Rattle.judge.proofs.record.test_rest.Tie as tie

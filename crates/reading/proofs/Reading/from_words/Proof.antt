@@ -1,5 +1,4 @@
 -- Each return is what the definition picks by the mark.
-use mathlib.Core.Path.{_∙_, sym}
 use borrow.Author.Tests.{eq-eqb, ne-eqb}
 use Rattle.reading.specs.Readings.{readingOf}
 use Rattle.reading.proofs.WordProofs.{word-laws}

@@ -3,7 +3,8 @@ use lib.Ieee.{binary32, ofBits}
 use Rattle.reading.specs.declared.Reading.the-variants.{Below}
 use Rattle.reading.specs.Readings.{belowFrom}
 use Rattle.reading.proofs.RangeLaws.{not-nan-pattern}
-use Rattle.reading.proofs.Tested.{failed, passed, refuses, gives}
+use Rattle.refusal.proofs.Testing.{failed, passed}
+use Rattle.reading.proofs.Tested.{refuses, gives}
 use borrow.Author.Needs.{needs}
 use Rattle.reading.proofs.marks.below.Statement.{statement}
 use Rattle.reading.proofs.marks.below.Tie as tie

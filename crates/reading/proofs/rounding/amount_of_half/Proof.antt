@@ -1,11 +1,12 @@
 -- The product by 0.5 is exact for a limit in range, so its amount is that of half the exact value.
-use mathlib.Core.Path.{_≡_, sym, ap, _∙_, subst}
+use mathlib.Core.Path.{sym, ap, _∙_, subst}
 use lib.Dec.{T}
 use lib.Ieee.{binary32, fits}
 use Rattle.refusal.specs.Outcome.Outcome.{given}
 use Rattle.reading.specs.Amounts.{Amount, halfMass, valueMass, valueAmount, halfAmount}
 use Rattle.reading.proofs.Half.{half-of, half-in-range, half-mass}
-use Rattle.reading.proofs.Tested.{failed, passed, refuses, gives}
+use Rattle.refusal.proofs.Testing.{failed, passed}
+use Rattle.reading.proofs.Tested.{refuses, gives}
 use borrow.Author.Needs.{needs}
 use Rattle.reading.proofs.rounding.amount_of_half.Statement.{statement}
 use Rattle.reading.proofs.rounding.amount_of_half.Tie as tie

@@ -1,23 +1,12 @@
--- Tests: what the code's `if !test { return refusal }` leaves, and what the test of a range says.
-use mathlib.Core.Path.{_≡_, refl, sym, _∙_}
-use mathlib.Core.Bool.{Bool, true, false, not, _&&_, and-false, true≢false}
+-- What the test of a range says.
+use mathlib.Core.Path.{_≡_}
+use mathlib.Core.Bool.{true, false, and-false}
 use mathlib.Core.Logic.{_⊎_, ⊎-elim}
 use Prim.Native.Nat.{ℕ, _≤_, _<_}
 use lib.Dec.{leb}
-use borrow.Author.Tests.{not-true, not-false, leb-true, le-leb, lt-leb}
+use borrow.Author.Tests.{leb-true, le-leb, lt-leb}
+use Rattle.refusal.proofs.Testing.{both}
 use Rattle.judge.specs.Record.{between}
-
--- the code's answer r is the test t
-module _ {r t : Bool} (e : r ≡ t) where
-  pub failed : not r ≡ true → t ≡ false
-  failed n = sym e ∙ not-true r n
-
-  pub passed : not r ≡ false → t ≡ true
-  passed n = sym e ∙ not-false r n
-
-pub both : (a b : Bool) → a && b ≡ true → (a ≡ true) × (b ≡ true)
-both true b e = (refl, e)
-both false b e = absurd (true≢false (sym e))
 
 module _ (least most x : ℕ) where
   pub in-between : between least most x ≡ true → (least ≤ x) × (x ≤ most)

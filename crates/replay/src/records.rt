@@ -1,0 +1,67 @@
+// The calls of `judge`.
+use crate::print;
+use judge::Agreement;
+use judge::Judgement;
+use judge::Verdict;
+use judge::Verdicts;
+
+// Document 01's number of a verdict.
+fn number_of(verdict: Verdict) -> u32 {
+    match verdict {
+        Verdict::NotApplicable => 0,
+        Verdict::Within => 1,
+        Verdict::Outside => 2,
+        Verdict::Undecided => 3,
+        Verdict::Missing => 4,
+    }
+}
+
+fn print_verdicts(verdicts: Verdicts) {
+    let balance = verdicts.balance;
+    let conductivity = verdicts.conductivity;
+    let ratio = verdicts.ratio;
+    let nitrogen = verdicts.nitrogen;
+    print::two_numbers(b"judged ", number_of(balance), number_of(conductivity));
+    print::two_words(b" ", number_of(ratio), number_of(nitrogen));
+}
+
+fn print_judgement(answer: Judgement) {
+    match answer {
+        Judgement::Judged(verdicts) => print_verdicts(verdicts),
+        Judgement::Refused(why) => print::refused(why),
+    }
+}
+
+fn print_agreement(answer: Agreement) {
+    match answer {
+        Agreement::Agree => print::text(b"agree"),
+        Agreement::Differ => print::text(b"differ"),
+        Agreement::Refused(why) => print::refused(why),
+    }
+}
+
+// Any words: the verdicts of the record that they are.
+pub fn judge(words: &[u32]) -> bool {
+    print_judgement(judge::judge(words));
+    true
+}
+
+// The first of the words, as many as the count says, and the rest.
+fn agree_parts(count: u32, words: &[u32]) -> bool {
+    let n = count as usize;
+    if n > words.len() {
+        return false;
+    }
+    // Its start is written out, since the check then knows its length.
+    let first = &words[0..n];
+    print_agreement(judge::agree(first, &words[n..]));
+    true
+}
+
+// A count, that many words, and the rest: whether the two records agree.
+pub fn agree(words: &[u32]) -> bool {
+    if words.len() == 0 {
+        return false;
+    }
+    agree_parts(words[0], &words[1..])
+}
