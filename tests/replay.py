@@ -15,329 +15,33 @@ import struct
 import subprocess
 import sys
 from collections import Counter
-from dataclasses import dataclass, replace
+from dataclasses import replace
 from fractions import Fraction
-from functools import lru_cache
-from math import gcd
-from pathlib import Path
 
-ROOT = Path(__file__).resolve().parent.parent
+from document01 import (
+    ALKALINITY_REFUSED, ALKALINITY_STEP, amount_of, ANIONS, anions_of, balance_holds, BELOW,
+    calculated_without_hydrogen, CATIONS, charge, CHECKS, CL, conductivity_check, conductivity_holds,
+    CONDUCTIVITY_REFUSED, DOC, exact_value, floor_of_hydrogen, GREATEST_ALKALINITY, GREATEST_AMOUNT,
+    GREATEST_CONDUCTIVITY, GREATEST_PH, GREATEST_SAMPLE, HYDROGEN_CONDUCTANCE, ion_balance, ION_STEP, IONS,
+    is_limit, is_reading, is_value, KIND_REFUSED, KINDS, LEAST_PH, LENGTH_REFUSED, LITTLE_CARBON, MEASURED,
+    MEASURED_STEP, MG, MISSING, NA, NH4, NO3, packed, PH_REFUSED, plain_docket, READING_REFUSED, READINGS, Record,
+    record_of, RECORD_WORDS, records_agree, refusal_of, REFUSALS, refused, ROOT, SAMPLE_REFUSED, STATES, TN,
+    UNDECIDED, verdicts_of, whole_micrograms, WORDS,
+)
+from records import (
+    around, BALANCE_BOUNDS, check_proved_cases, EDGES, GREATEST, HALF_TIES, INFINITY, LEAST_LIMIT, MARKS,
+    nearest_pattern, on_balance_limit, on_conductivity_limit, PROVED, room_for_others, SAMPLE,
+    somewhere_on_conductivity_limit, spread, TIES, undecided_balance_places, undecided_balances,
+    undecided_conductivities, with_amount, with_reading, with_word, words_of,
+)
+from offers import random_offers, scattered
+
 PROGRAM = ROOT / "target" / "bin" / "replay"
 STORED = ROOT / "crates" / "replay"
 
-WORDS = 2**32
-MOST_WORDS = 64
+MOST_WORDS = 256
 
-FLOOR, FROM_WORDS, TO_READING, AMOUNT, TO_WORDS, NUMBER, JUDGE, AGREE = 1, 2, 3, 4, 5, 6, 7, 8
-MISSING, MEASURED, BELOW = 0, 1, 2
-
-
-# ---- Document 01, 'Refusals'
-
-LENGTH_REFUSED = 1
-SAMPLE_REFUSED = 2
-KIND_REFUSED = 3
-PH_REFUSED = 4
-CONDUCTIVITY_REFUSED = 5
-ALKALINITY_REFUSED = 6
-READING_REFUSED = 7
-REFUSALS = 13
-
-
-def refused(number):
-    return f"refused {number}"
-
-
-# ---- Document 01, 'Hydrogen'
-
-LEAST_PH, GREATEST_PH = 200, 1000
-
-
-@lru_cache(maxsize=None)
-def floor_of_hydrogen(p):
-    """The greatest whole number whose hundredth power is at most 10^(1500 - p)."""
-    power = 10 ** (1500 - p)
-    low, high = 0, 1
-    while high**100 <= power:
-        high *= 2
-    while high - low > 1:
-        middle = (low + high) // 2
-        if middle**100 <= power:
-            low = middle
-        else:
-            high = middle
-    return low
-
-
-# ---- Document 01, 'A reading'
-
-
-def exact_value(bits):
-    """The exact value of a float in mg/L; None where document 01 refuses it: a set sign bit, an infinity or a NaN."""
-    sign = bits >> 31
-    exponent = (bits >> 23) & 0xFF
-    digits = bits & 0x7FFFFF
-    if sign == 1 or exponent == 255:
-        return None
-    if exponent == 0:
-        return Fraction(digits, 2**149)
-    return (2**23 + digits) * Fraction(2) ** (exponent - 150)
-
-
-def is_value(bits):
-    x = exact_value(bits)
-    return x is not None and x <= 200
-
-
-def is_limit(bits):
-    x = exact_value(bits)
-    return x is not None and Fraction(1, 2**10) <= x <= 200
-
-
-def whole_micrograms(milligrams):
-    """The nearest whole number of µg/L, a tie going up."""
-    return (1000 * milligrams + Fraction(1, 2)).__floor__()
-
-
-@lru_cache(maxsize=2**16)
-def is_reading(mark, bits):
-    if mark == MISSING:
-        return bits == 0
-    if mark == MEASURED:
-        return is_value(bits)
-    return mark == BELOW and is_limit(bits)
-
-
-@lru_cache(maxsize=2**16)
-def amount_of(mark, bits):
-    """The amount of a reading in µg/L, below counting as half its limit; None where it is missing."""
-    if mark == MISSING:
-        return None
-    if mark == MEASURED:
-        return whole_micrograms(exact_value(bits))
-    return whole_micrograms(exact_value(bits) / 2)
-
-
-# ---- Document 01, 'A record'
-
-RECORD_WORDS = 25
-READINGS = 10
-NH4, CA, MG, NA, K, SO4, NO3, CL, TN, DOC = range(READINGS)
-GREATEST_SAMPLE = 999_999
-KINDS = 6
-GREATEST_CONDUCTIVITY = 100_000
-GREATEST_ALKALINITY = 200_000
-GREATEST_AMOUNT = 200_000
-
-
-@dataclass
-class Record:
-    """Conductivity in tenths of µS/cm, alkalinity in tenths of µeq/L, ten amounts in µg/L, None where missing."""
-
-    number: int
-    kind: int
-    p: int
-    conductivity: int
-    alkalinity: int
-    amounts: list
-
-
-def refusal_of(words):
-    """The number of the first of the record's own tests that refuses the words; None where none does."""
-    if len(words) != RECORD_WORDS:
-        return LENGTH_REFUSED
-    number, kind, p, conductivity, alkalinity = words[:5]
-    if not 1 <= number <= GREATEST_SAMPLE:
-        return SAMPLE_REFUSED
-    if not 1 <= kind <= KINDS:
-        return KIND_REFUSED
-    if not LEAST_PH <= p <= GREATEST_PH:
-        return PH_REFUSED
-    if not 1 <= conductivity <= GREATEST_CONDUCTIVITY:
-        return CONDUCTIVITY_REFUSED
-    if not 0 <= alkalinity <= GREATEST_ALKALINITY:
-        return ALKALINITY_REFUSED
-    if not all(is_reading(words[5 + 2 * i], words[6 + 2 * i]) for i in range(READINGS)):
-        return READING_REFUSED
-    return None
-
-
-def record_of(words):
-    """The record that the words are, where no test refuses them."""
-    amounts = [amount_of(words[5 + 2 * i], words[6 + 2 * i]) for i in range(READINGS)]
-    return Record(*words[:5], amounts)
-
-
-# ---- Document 01, 'Charge and conductance'
-
-# The two columns of each ion: 10^4 u for a µg/L, and 10^-13 µS/cm for a u.
-CATIONS = {NH4: (7139, 735), CA: (4990, 595), MG: (8229, 531), NA: (4350, 501), K: (2558, 735)}
-ANIONS = {SO4: (6237, 800), NO3: (7139, 714), CL: (2821, 764)}
-IONS = {**CATIONS, **ANIONS}
-# u in the step of the ions' charges, and in a tenth of a µeq/L of alkalinity.
-ION_STEP = 10**4
-ALKALINITY_STEP = 10**8
-HYDROGEN_CONDUCTANCE = 3500
-ALKALINITY_CONDUCTANCE = 445
-# 10^-13 µS/cm in a tenth of a µS/cm.
-MEASURED_STEP = 10**12
-
-
-def charge(record, ions):
-    """The charge of some of the ions, in u."""
-    return sum(ION_STEP * factor * record.amounts[ion] for ion, (factor, _) in ions.items())
-
-
-def anions_of(record):
-    return ALKALINITY_STEP * record.alkalinity + charge(record, ANIONS)
-
-
-def calculated_without_hydrogen(record):
-    """The calculated conductivity of all rows but hydrogen's, in 10^-13 µS/cm."""
-    ions = sum(ION_STEP * factor * conductance * record.amounts[ion] for ion, (factor, conductance) in IONS.items())
-    return ALKALINITY_CONDUCTANCE * ALKALINITY_STEP * record.alkalinity + ions
-
-
-# ---- Document 01, 'The four checks'
-
-NOT_APPLICABLE, WITHIN, OUTSIDE, UNDECIDED, LACKING = range(5)
-
-LITTLE_CARBON = 5_000
-
-
-def lacks(record, ions):
-    return any(record.amounts[ion] is None for ion in ions)
-
-
-def verdict_between(h, sides):
-    """The verdict over the fractions x strictly between h and h + 1. The inequality is two sides, each of which is a
-    slope and a constant and says that slope * x + constant is at most 0. One slope is rising, so that its side holds up
-    to a greatest fraction; the other is falling, and its side holds from a least fraction."""
-    greatest = min(Fraction(-constant, slope) for slope, constant in sides if slope > 0)
-    least = max(Fraction(-constant, slope) for slope, constant in sides if slope < 0)
-    if least <= h and h + 1 <= greatest:
-        return WITHIN
-    if greatest <= h or h + 1 <= least or greatest < least:
-        return OUTSIDE
-    return UNDECIDED
-
-
-def balance_limit(conductivity):
-    return 20 if conductivity <= 200 else 10
-
-
-def conductivity_limit(conductivity):
-    if conductivity <= 100:
-        return 30
-    return 20 if conductivity <= 200 else 10
-
-
-def balance_applies(record):
-    carbon = record.amounts[DOC]
-    return record.kind in (1, 2) or (record.kind == 5 and carbon is not None and carbon < LITTLE_CARBON)
-
-
-def balance_holds(record, x):
-    """The inequality of the ion balance, with x u of hydrogen."""
-    cations = x + charge(record, CATIONS)
-    anions = anions_of(record)
-    return 200 * abs(cations - anions) <= balance_limit(record.conductivity) * (cations + anions)
-
-
-def balance_sides(record):
-    """200 * (x + cations - anions), and 200 times its opposite, are at most limit * (x + cations + anions)."""
-    cations = charge(record, CATIONS)
-    anions = anions_of(record)
-    limit = balance_limit(record.conductivity)
-    return [(200 * sign - limit, 200 * sign * (cations - anions) - limit * (cations + anions)) for sign in (1, -1)]
-
-
-def ion_balance(record):
-    if not balance_applies(record):
-        return NOT_APPLICABLE
-    if lacks(record, IONS):
-        return LACKING
-    h = floor_of_hydrogen(record.p)
-    if record.p % 100 == 0:
-        return WITHIN if balance_holds(record, h) else OUTSIDE
-    return verdict_between(h, balance_sides(record))
-
-
-def conductivity_holds(record, x):
-    """The inequality of the conductivity, with x u of hydrogen."""
-    calculated = HYDROGEN_CONDUCTANCE * x + calculated_without_hydrogen(record)
-    measured = MEASURED_STEP * record.conductivity
-    return 100 * abs(calculated - measured) <= conductivity_limit(record.conductivity) * measured
-
-
-def conductivity_sides(record):
-    """100 * (3500 * x + others - measured), and 100 times its opposite, are at most limit * measured."""
-    others = calculated_without_hydrogen(record)
-    measured = MEASURED_STEP * record.conductivity
-    most = conductivity_limit(record.conductivity) * measured
-    return [(100 * sign * HYDROGEN_CONDUCTANCE, 100 * sign * (others - measured) - most) for sign in (1, -1)]
-
-
-def conductivity_check(record):
-    if lacks(record, IONS):
-        return LACKING
-    h = floor_of_hydrogen(record.p)
-    if record.p % 100 == 0:
-        return WITHIN if conductivity_holds(record, h) else OUTSIDE
-    return verdict_between(h, conductivity_sides(record))
-
-
-def sodium_chloride(record):
-    if record.kind not in (1, 2, 3, 4) or record.amounts[CL] == 0:
-        return NOT_APPLICABLE
-    if lacks(record, (NA, CL)):
-        return LACKING
-    ratio = Fraction(charge(record, {NA: CATIONS[NA]}), charge(record, {CL: ANIONS[CL]}))
-    return WITHIN if Fraction(1, 2) <= ratio <= Fraction(3, 2) else OUTSIDE
-
-
-def nitrogen(record):
-    if record.amounts[TN] is None:
-        return NOT_APPLICABLE
-    if lacks(record, (NO3, NH4)):
-        return LACKING
-    return WITHIN if record.amounts[TN] >= record.amounts[NO3] + record.amounts[NH4] else OUTSIDE
-
-
-CHECKS = {
-    "ion balance": ion_balance,
-    "conductivity": conductivity_check,
-    "Na/Cl": sodium_chloride,
-    "nitrogen": nitrogen,
-}
-
-
-def verdicts_of(words):
-    record = record_of(words)
-    return [check(record) for check in CHECKS.values()]
-
-
-# ---- Document 01, 'The docket': when two records agree
-
-
-def within_a_tenth(x, y):
-    return 10 * abs(x - y) <= max(x, y)
-
-
-def amounts_agree(x, y):
-    """Missing agrees only with missing."""
-    if x is None or y is None:
-        return x is y
-    return within_a_tenth(x, y)
-
-
-def records_agree(one, other):
-    return (
-        abs(one.p - other.p) <= 10
-        and within_a_tenth(one.conductivity, other.conductivity)
-        and within_a_tenth(one.alkalinity, other.alkalinity)
-        and all(amounts_agree(one.amounts[ion], other.amounts[ion]) for ion in IONS)
-    )
+FLOOR, FROM_WORDS, TO_READING, AMOUNT, TO_WORDS, NUMBER, JUDGE, AGREE, OFFERS = range(1, 10)
 
 
 # ---- The calls
@@ -416,6 +120,25 @@ def answer_agree(*words):
     return "agree" if records_agree(record_of(first), record_of(second)) else "differ"
 
 
+def cut(words):
+    """Counts, each with that many words after it; one that runs past the end has what is left."""
+    offers = []
+    at = 0
+    while at < len(words):
+        end = at + 1 + words[at]
+        offers.append(words[at + 1 : end])
+        at = end
+    return offers
+
+
+def answer_offers(*words):
+    """The offers to a fresh docket: for each 0 or its refusal's number, the state's place, and the count."""
+    line = ["offers"]
+    for number, state, count in plain_docket(cut(words)):
+        line += [str(number or 0), str(STATES.index(state)), str(count)]
+    return " ".join(line)
+
+
 # How many words a call takes that takes any number of them.
 ANY = None
 
@@ -429,14 +152,11 @@ CALLS = {
     NUMBER: (1, answer_number),
     JUDGE: (ANY, answer_judge),
     AGREE: (ANY, answer_agree),
+    OFFERS: (ANY, answer_offers),
 }
 
 
 # ---- Input and output
-
-
-def packed(words):
-    return struct.pack(f"<{len(words)}I", *words)
 
 
 def input_of(cases):
@@ -472,268 +192,6 @@ def lines_of(data):
 def run(data):
     done = subprocess.run([PROGRAM], input=data, stdout=subprocess.PIPE, check=True)
     return done.stdout.decode().splitlines()
-
-
-# ---- Patterns of floats that matter
-
-INFINITY = 0x7F800000
-LEAST_LIMIT = 0x3A800000
-GREATEST = 0x43480000
-
-# The ends of the ranges and of the patterns' own forms: zeros, the least and the greatest of the floats below the
-# normal ones, infinities, NaNs, and each of these with its sign bit set.
-EDGES = [
-    0,
-    1,
-    0x007FFFFF,
-    0x00800000,
-    LEAST_LIMIT - 1,
-    LEAST_LIMIT,
-    LEAST_LIMIT + 1,
-    0x3D800000,
-    0x3F000000,
-    0x3F800000,
-    GREATEST - 1,
-    GREATEST,
-    GREATEST + 1,
-    0x7F7FFFFF,
-    INFINITY,
-    0x7F800001,
-    0x7FC00000,
-    0x7FFFFFFF,
-    0x80000000,
-    0x80000001,
-    0x80800000,
-    0xBA800000,
-    0xBF800000,
-    0xC3480000,
-    0xFF7FFFFF,
-    0xFF800000,
-    0xFF800001,
-    0xFFC00000,
-    0xFFFFFFFF,
-]
-
-MARKS = [0, 1, 2, 3, 2**31, 2**32 - 1]
-
-
-def nearest_pattern(x):
-    """The pattern of the float nearest to x."""
-    return struct.unpack("<I", struct.pack("<f", x))[0]
-
-
-# A tie is (2k + 1)/2000 mg/L. As the value of a float, a whole number over a power of two, it is one where 125 divides
-# 2k + 1: the odd multiples of 1/16, and no others. So the limits whose half is a tie are the odd multiples of 1/8.
-TIES = [odd / 16 for odd in range(1, 200 * 16, 2)]
-HALF_TIES = [odd / 8 for odd in range(1, 200 * 8, 2)]
-
-
-def around(x):
-    """The float nearest to x, the one below it and the one above."""
-    bits = nearest_pattern(x)
-    return [bits - 1, bits, bits + 1]
-
-
-def spread(ties):
-    """The first and the last few of the ties, and some between."""
-    return ties[:8] + ties[8 : -8 : len(ties) // 24] + ties[-8:]
-
-
-# ---- Records made for a purpose
-
-
-def reading_words(amount, mark=MEASURED):
-    """A mark and a pattern that give an amount: the float nearest to it, or to its double for a limit."""
-    if amount is None:
-        return [MISSING, 0]
-    bits = nearest_pattern(amount / 1000)
-    if mark == BELOW:
-        bits = max(LEAST_LIMIT, nearest_pattern(2 * amount / 1000))
-    assert is_reading(mark, bits) and amount_of(mark, bits) == amount
-    return [mark, bits]
-
-
-def words_of(record, marks=(MEASURED,) * READINGS):
-    """The words of a record, its readings with these marks where they are not missing."""
-    words = [record.number, record.kind, record.p, record.conductivity, record.alkalinity]
-    for amount, mark in zip(record.amounts, marks):
-        words += reading_words(amount, mark)
-    return words
-
-
-def with_word(words, place, word):
-    return [*words[:place], word, *words[place + 1 :]]
-
-
-def with_reading(words, ion, mark, bits):
-    return with_word(with_word(words, 5 + 2 * ion, mark), 6 + 2 * ion, bits)
-
-
-def with_amount(words, ion, amount, mark=MEASURED):
-    return with_reading(words, ion, *reading_words(amount, mark))
-
-
-# The sample that document 01 prints ('A batch').
-SAMPLE = [7, 2, 500, 150, 0]
-for pattern in (0x3E800000, 0x3F000000, 0, 0x3F800000, 0, 0x3F000000, 0x3E800000, 0x3FC00000, 0x3F000000):
-    SAMPLE += [MEASURED, pattern]
-SAMPLE += [MISSING, 0]
-
-
-def only_alkalinity(conductivity, alkalinity):
-    return words_of(Record(7, 2, 500, conductivity, alkalinity, [0] * READINGS))
-
-
-# Document 01, 'Proved cases' 5 to 16 and the printed sample: the words, and the verdict of a check that it names.
-PROVED = [
-    *((only_alkalinity(200, t), "ion balance", v) for t, v in zip((81, 82, 122, 123), (2, 1, 1, 2))),
-    *((only_alkalinity(201, t), "ion balance", v) for t, v in zip((90, 91, 110, 111), (2, 1, 1, 2))),
-    *((with_word(SAMPLE, 3, cm), "conductivity", v) for cm, v in zip((128, 129, 193, 194), (2, 1, 1, 2))),
-    *((SAMPLE, check, WITHIN) for check in CHECKS),
-]
-
-
-def check_proved_cases():
-    """The answers computed here are those that the document states."""
-    assert [floor_of_hydrogen(p) for p in (600, 530, 999)] == [10**9, 5_011_872_336, 102_329]
-    assert amount_of(MEASURED, 0x3D800000) == 63
-    for words, check, verdict in PROVED:
-        assert CHECKS[check](record_of(words)) == verdict
-
-
-# ---- Records on a limit of the ion balance
-#
-# With An and Cat (Cat without hydrogen) in steps of 10^4 u, of which the ions' charges and alkalinity are whole
-# numbers, hydrogen x is at most 10^4 * (a * An - c * Cat) / c, or at least that, with these a and c for each limit.
-# So for whole k, records with a * An - c * Cat = k are those whose bound for x is 10^4 * k / c.
-
-
-def balance_bounds():
-    """Each limit in percent with its a and c: of the greatest fraction for hydrogen, then of the least."""
-    for limit in (20, 10):
-        unit = gcd(200 + limit, 200 - limit)
-        more, less = (200 + limit) // unit, (200 - limit) // unit
-        yield limit, more, less
-        yield limit, less, more
-
-
-BALANCE_BOUNDS = list(balance_bounds())
-
-
-def in_balance(dice, a, c, k):
-    """Amounts of the eight ions and an alkalinity with a * An - c * Cat = k. Potassium gives the cations the remainder
-    by a that is needed, chloride gives the anions the one by a tenth of a µeq/L, and alkalinity is what is left."""
-    factor = {ion: columns[0] for ion, columns in IONS.items()}
-    tenth = ALKALINITY_STEP // ION_STEP
-    while True:
-        most = dice.choice([2_000, 10_000, 50_000])
-        amounts = [dice.randrange(most) for _ in IONS]
-        amounts[K] = amounts[CL] = 0
-        cations = sum(factor[ion] * amounts[ion] for ion in CATIONS)
-        amounts[K] = next(n for n in range(a) if (k + c * (cations + factor[K] * n)) % a == 0)
-        anions = (k + c * (cations + factor[K] * amounts[K])) // a
-        left = anions - sum(factor[ion] * amounts[ion] for ion in ANIONS)
-        amounts[CL] = left * pow(factor[CL], -1, tenth) % tenth
-        alkalinity = (left - factor[CL] * amounts[CL]) // tenth
-        if 0 <= alkalinity <= GREATEST_ALKALINITY:
-            return amounts, alkalinity
-
-
-def bound_between(h, numerator, denominator):
-    """The whole k with numerator * k / denominator strictly between h and h + 1; None where there is none."""
-    k = denominator * h // numerator + 1
-    return k if numerator * k < denominator * (h + 1) else None
-
-
-def open_field_record(dice, p, conductivity, alkalinity, ions):
-    """A record with the amounts of the eight ions, for which all four checks apply."""
-    kind = dice.randint(1, 2)
-    return Record(dice.randint(1, GREATEST_SAMPLE), kind, p, conductivity, alkalinity, [*ions, 500, 800])
-
-
-def on_balance_limit(dice, p, limit, a, c, k):
-    """A record with 10^4 * k / c for this bound."""
-    amounts, alkalinity = in_balance(dice, a, c, k)
-    conductivity = dice.randint(1, 200) if limit == 20 else dice.randint(201, 2_000)
-    return open_field_record(dice, p, conductivity, alkalinity, amounts)
-
-
-def undecided_balance_places():
-    """Each p with a limit, its a and c, and the k that gives an undecided ion balance."""
-    for p in range(LEAST_PH, GREATEST_PH + 1):
-        for limit, a, c in BALANCE_BOUNDS:
-            k = bound_between(floor_of_hydrogen(p), ION_STEP, c)
-            if p % 100 != 0 and k is not None:
-                yield p, limit, a, c, k
-
-
-def undecided_balances(dice):
-    return (on_balance_limit(dice, *place) for place in undecided_balance_places())
-
-
-# ---- Records on a limit of the conductivity
-#
-# In 10^-9 µS/cm, of which the conductances of the ions and of alkalinity are whole numbers, with E for their sum and w
-# for the measured tenths: hydrogen x is at most 20 * k / 7 for k = (100 + M) * 10^6 * w - E, and at least 20 * k / 7
-# for k = (100 - M) * 10^6 * w - E.
-
-HYDROGEN_BOUND = (20, 7)
-
-
-# The least and the greatest sum of conductances that `conducting` is asked for: 1 and 800 µS/cm.
-LEAST_SUM, GREATEST_SUM = 10**9, 8 * 10**11
-
-
-def conducting(dice, total):
-    """Amounts of the eight ions and an alkalinity with a sum of conductances. Magnesium gives it the remainder by a
-    tenth of a µeq/L of alkalinity that is needed, NH4-N is tried until magnesium is small, and alkalinity is what is
-    left."""
-    factor = {ion: columns[0] * columns[1] for ion, columns in IONS.items()}
-    tenth = ALKALINITY_CONDUCTANCE * ALKALINITY_STEP // ION_STEP
-    inverse = pow(factor[MG], -1, tenth)
-    step = factor[NH4] * inverse % tenth
-    while True:
-        amounts = [dice.randint(0, total // (12 * factor[ion])) for ion in IONS]
-        amounts[MG] = amounts[NH4] = 0
-        left = total - sum(factor[ion] * amounts[ion] for ion in IONS)
-        most = left // (3 * factor[MG])
-        magnesium = left * inverse % tenth
-        for ammonium in range(left // (3 * factor[NH4]) + 1):
-            if magnesium <= most:
-                amounts[NH4], amounts[MG] = ammonium, magnesium
-                return amounts, (left - factor[NH4] * ammonium - factor[MG] * magnesium) // tenth
-            magnesium = (magnesium - step) % tenth
-
-
-def on_conductivity_limit(dice, p, conductivity, sign, k):
-    """A record with 20 * k / 7 for the greatest fraction for hydrogen (sign 1) or the least (sign -1); None where
-    hydrogen leaves too little of the conductivity to the other ions, or too much."""
-    total = (100 + sign * conductivity_limit(conductivity)) * 10**6 * conductivity - k
-    if not LEAST_SUM <= total <= GREATEST_SUM or not 1 <= conductivity <= GREATEST_CONDUCTIVITY:
-        return None
-    amounts, alkalinity = conducting(dice, total)
-    return open_field_record(dice, p, conductivity, alkalinity, amounts)
-
-
-def room_for_others(dice, k):
-    """A measured conductivity of which a share is left to the ions but hydrogen."""
-    share = dice.choice([40, 100, 400, 2_000])
-    return k // 10**8 + dice.randint(share // 2, share)
-
-
-def somewhere_on_conductivity_limit(dice, p, k):
-    while True:
-        found = on_conductivity_limit(dice, p, room_for_others(dice, k), dice.choice((-1, 1)), k)
-        if found is not None:
-            return found
-
-
-def undecided_conductivities(dice):
-    """A record for each p that has an undecided conductivity."""
-    for p in range(LEAST_PH, GREATEST_PH + 1):
-        k = bound_between(floor_of_hydrogen(p), *HYDROGEN_BOUND)
-        if p % 100 != 0 and k is not None:
-            yield somewhere_on_conductivity_limit(dice, p, k)
 
 
 # ---- The stored cases
@@ -1000,6 +458,18 @@ def stored_agreements():
     yield AGREE, 0
 
 
+def offers_of(offers):
+    return (OFFERS, *(word for words in offers for word in (len(words), *words)))
+
+
+def stored_offers():
+    """Dockets followed through scatter, each closed in every way that there is, and offers after that."""
+    yield (OFFERS,)
+    yield OFFERS, 0
+    yield OFFERS, RECORD_WORDS, *SAMPLE[:7]
+    yield from (offers_of(offers) for offers in scattered(random.Random(2)))
+
+
 def stored_input():
     """The last case lacks a word, so that the end of a damaged input is stored too."""
     cases = [
@@ -1010,6 +480,7 @@ def stored_input():
         *stored_numbers(),
         *judged(stored_judged()),
         *stored_agreements(),
+        *stored_offers(),
         (FROM_WORDS, MEASURED, 0),
     ]
     return input_of(cases)[:-4]
@@ -1257,6 +728,14 @@ def random_agree(dice):
     return pair_of(first, second)
 
 
+def random_docket_offers(dice):
+    return random_offers(dice, dice.choice([plain_record, near_balance, near_conductivity])(dice))
+
+
+def random_docket(dice):
+    return offers_of(random_docket_offers(dice))
+
+
 def random_case(dice):
     kind = dice.randrange(40)
     if kind == 0:
@@ -1267,7 +746,9 @@ def random_case(dice):
         return random_analysis(dice)
     if kind < 14:
         return random_reading(dice)
-    return random_judge(dice) if kind < 30 else random_agree(dice)
+    if kind < 28:
+        return random_judge(dice)
+    return random_agree(dice) if kind < 36 else random_docket(dice)
 
 
 def damaged_inputs():

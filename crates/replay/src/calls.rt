@@ -1,5 +1,6 @@
 // The number of each call. A call prints its line and says true, or prints nothing and says false where the words are
 // not what it takes.
+use crate::dockets;
 use crate::floors;
 use crate::readings;
 use crate::records;
@@ -15,6 +16,7 @@ pub fn answer(call: u32, words: &[u32]) -> bool {
         6 => refusals::number(words),
         7 => records::judge(words),
         8 => records::agree(words),
+        9 => dockets::offers(words),
         _ => false,
     }
 }

@@ -2,15 +2,13 @@
 // The input is words of four bytes, least byte first. A case is the number of a call, a count, and that many words.
 // At a case that is malformed, or that the input ends in the middle of, it prints `malformed` and stops.
 mod calls;
+mod dockets;
 mod floats;
 mod floors;
-mod input;
 mod print;
 mod readings;
 mod records;
 mod refusals;
-
-use input::Got;
 
 // Reads the words of a case and answers it. Says whether the case was well formed.
 fn answer_case(call: u32, count: u32) -> bool {
@@ -22,22 +20,20 @@ fn answer_case(call: u32, count: u32) -> bool {
     // Its start is written out, since the check then knows its length.
     let part = &mut words[0..n];
     let got = input::read(part);
-    match got {
-        Got::All => calls::answer(call, part),
-        Got::Part => false,
-        Got::Nothing => false,
+    if got.words < n {
+        return false;
     }
+    calls::answer(call, part)
 }
 
 // Reads a case and prints its line. Says whether to go on: not at the end of the input, nor after a malformed case.
 fn replay_case() -> bool {
     let mut head = [0u32; 2];
     let got = input::read(&mut head);
-    let is_answered = match got {
-        Got::All => answer_case(head[0], head[1]),
-        Got::Part => false,
-        Got::Nothing => return false,
-    };
+    if got.bytes == 0 {
+        return false;
+    }
+    let is_answered = got.words == 2 && answer_case(head[0], head[1]);
     if !is_answered {
         print::text(b"malformed");
     }

@@ -20,6 +20,17 @@ pub fn word(before: &[u8], n: u32) {
     number(before, n as u64);
 }
 
+// Text alone, and no end of the line.
+pub fn part(text: &[u8]) {
+    io::write_all(STDOUT_FILENO, text);
+}
+
+// Text and a number, and no end of the line.
+pub fn one_number(before: &[u8], n: u32) {
+    io::write_all(STDOUT_FILENO, before);
+    io::print_decimal(STDOUT_FILENO, n as u64);
+}
+
 // Text and two numbers, and no end of the line.
 pub fn two_numbers(before: &[u8], first: u32, second: u32) {
     io::write_all(STDOUT_FILENO, before);

@@ -2,27 +2,15 @@
 use crate::print;
 use judge::Agreement;
 use judge::Judgement;
-use judge::Verdict;
 use judge::Verdicts;
-
-// Document 01's number of a verdict.
-fn number_of(verdict: Verdict) -> u32 {
-    match verdict {
-        Verdict::NotApplicable => 0,
-        Verdict::Within => 1,
-        Verdict::Outside => 2,
-        Verdict::Undecided => 3,
-        Verdict::Missing => 4,
-    }
-}
 
 fn print_verdicts(verdicts: Verdicts) {
     let balance = verdicts.balance;
     let conductivity = verdicts.conductivity;
     let ratio = verdicts.ratio;
     let nitrogen = verdicts.nitrogen;
-    print::two_numbers(b"judged ", number_of(balance), number_of(conductivity));
-    print::two_words(b" ", number_of(ratio), number_of(nitrogen));
+    print::two_numbers(b"judged ", balance.number(), conductivity.number());
+    print::two_words(b" ", ratio.number(), nitrogen.number());
 }
 
 fn print_judgement(answer: Judgement) {

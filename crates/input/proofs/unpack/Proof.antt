@@ -4,8 +4,8 @@ use Prim.Native.Nat.{_-_, _≤_}
 use native.Mathlib.Omega.{arith}
 use lib.ListN.{length, length-set}
 use borrow.Author.Needs.{needs}
-use Rattle.replay.proofs.input.unpack.Statement.{statement}
-use Rattle.replay.proofs.input.unpack.Tie as tie
+use Rattle.input.proofs.unpack.Statement.{statement}
+use Rattle.input.proofs.unpack.Tie as tie
 
 abbrev Inv-loop : tie.InvT-loop
 Inv-loop bytes words₀ i₀ words i = (i ≤ length words) × (length words ≡ length words₀)

@@ -1,0 +1,74 @@
+-- The records of a slice, from the front: none of an empty one, else the first 25 words and the records of the rest.
+use mathlib.Core.Path.{_≡_, refl, sym, ap, _∙_}
+use mathlib.Core.List.{List, [], _∷_}
+use Prim.Native.Nat.{ℕ, zero, suc, _+_, _-_, _≤_, _<_}
+use native.Mathlib.Decide.{decLe}
+use native.Mathlib.Omega.{arith}
+use lib.ListN.{length, take, drop, length-drop, drop-of-length-le}
+use lib.Seq.{take-all, drop-drop}
+use Rattle.judge.specs.Record.{recordWords}
+use Rattle.docket.specs.Terms.{DocketTerms}
+use Rattle.docket.specs.Offers.{offerOf}
+use Rattle.docket.specs.Following.{docketAfter}
+use Rattle.docket.specs.Cutting.{firstRecords, records, endOf}
+
+-- words enough for all of them: how many are asked for makes no difference
+enough : (n m : ℕ) (s : List ℕ) → length s ≤ n → length s ≤ m → firstRecords n s ≡ firstRecords m s
+unfolding firstRecords
+enough zero zero s h k = refl
+enough zero (suc m) [] h k = refl
+enough zero (suc m) (w ∷ s) h k = absurd (omega arith)
+enough (suc n) zero [] h k = refl
+enough (suc n) zero (w ∷ s) h k = absurd (omega arith)
+enough (suc n) (suc m) [] h k = refl
+enough (suc n) (suc m) (w ∷ s) h k =
+    let rest : List ℕ = drop recordWords (w ∷ s) in
+    let l : length rest ≡ length (w ∷ s) - recordWords = length-drop recordWords (w ∷ s) in
+    ap (λ (t : List (List ℕ)). take recordWords (w ∷ s) ∷ t) (enough n m rest (omega arith) (omega arith))
+
+-- one record, then the others
+next : (s : List ℕ) → 0 < length s → records s ≡ take recordWords s ∷ records (drop recordWords s)
+unfolding records firstRecords
+next [] h = absurd (omega arith)
+next (w ∷ s) h =
+    let rest : List ℕ = drop recordWords (w ∷ s) in
+    let l : length rest ≡ length (w ∷ s) - recordWords = length-drop recordWords (w ∷ s) in
+    ap (λ (t : List (List ℕ)). take recordWords (w ∷ s) ∷ t) (enough (length s) (length rest) rest (omega arith) (omega arith))
+
+module _ (s : List ℕ) (at : ℕ) where
+  abbrev rest : List ℕ
+  rest = drop at s
+
+  -- the words of the record that starts at a place, and what comes after them
+  words-by : Dec (at + recordWords ≤ length s) → take (endOf at (length s) - at) rest ≡ take recordWords rest
+  words-by (yes h) =
+      let e : endOf at (length s) - at ≡ recordWords = omega arith in
+      ap (λ (n : ℕ). take n rest) e
+  words-by (no h) =
+      let l : length rest ≡ length s - at = length-drop at s in
+      take-all (endOf at (length s) - at) rest (omega arith) ∙ sym (take-all recordWords rest (omega arith))
+
+  after-by : Dec (at + recordWords ≤ length s) → drop recordWords rest ≡ drop (endOf at (length s)) s
+  after-by (yes h) =
+      let e : at + recordWords ≡ endOf at (length s) = omega arith in
+      drop-drop recordWords at s ∙ ap (λ (n : ℕ). drop n s) e
+  after-by (no h) =
+      drop-drop recordWords at s
+      ∙ drop-of-length-le s {i = at + recordWords} (omega arith)
+      ∙ sym (drop-of-length-le s {i = endOf at (length s)} (omega arith))
+
+  -- one turn: the record that starts here is offered, and the others are left
+  pub turn : (d after : DocketTerms) (end : ℕ) → at < length s → end ≡ endOf at (length s)
+      → after ≡ offerOf d (take (end - at) rest) .docket
+      → docketAfter after (records (drop end s)) ≡ docketAfter d (records rest)
+  unfolding docketAfter
+  turn d after end h e o =
+      let l : length rest ≡ length s - at = length-drop at s in
+      let some : 0 < length rest = omega arith in
+      let whole : Dec (at + recordWords ≤ length s) = decLe (at + recordWords) (length s) in
+      rw (next rest some, o, e, words-by whole, after-by whole)
+
+  -- after the last
+  pub ended : (d : DocketTerms) → length s ≤ at → docketAfter d (records rest) ≡ d
+  unfolding docketAfter records firstRecords
+  ended d h = rw (drop-of-length-le s h)

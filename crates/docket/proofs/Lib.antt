@@ -1,0 +1,6 @@
+-- The laws behind this crate's contracts, and the proof of the list theorem.
+mod CopyLaws
+mod CuttingLaws
+mod AdmissionLaws
+mod PlainLaws
+mod ListProof

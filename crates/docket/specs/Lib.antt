@@ -1,0 +1,7 @@
+pub mod Terms
+pub mod Passing
+pub mod Offers
+pub mod Plain
+pub mod Following
+pub mod Cutting
+pub mod Admissions
