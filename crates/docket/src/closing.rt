@@ -49,11 +49,5 @@ pub fn all_passed(verdicts: Verdicts) -> bool
 fn is_passed(verdict: Verdict) -> bool
     ensures { λ r. ⌜ r ≡ isPassed (verdictNumber verdict) ⌝ }
 {
-    match verdict {
-        Verdict::NotApplicable => true,
-        Verdict::Within => true,
-        Verdict::Outside => false,
-        Verdict::Undecided => false,
-        Verdict::Missing => false,
-    }
+    verdict.number() <= 1
 }
