@@ -1,6 +1,6 @@
 """Document 01, computed a second time with whole numbers and fractions: what the programs' answers are held to.
 
-Written from the document, section by section, with the most literal algorithm that is right.
+It follows the document section by section, with the most literal algorithm that is right.
 """
 
 import struct
