@@ -214,6 +214,14 @@ def verdict_between(h, sides):
     return UNDECIDED
 
 
+def verdict_of(record, holds, sides):
+    """By h itself where p is a multiple of 100, else by every fraction strictly between h and h + 1."""
+    h = floor_of_hydrogen(record.p)
+    if record.p % 100 == 0:
+        return WITHIN if holds(record, h) else OUTSIDE
+    return verdict_between(h, sides(record))
+
+
 def balance_limit(conductivity):
     return 20 if conductivity <= 200 else 10
 
@@ -249,10 +257,7 @@ def ion_balance(record):
         return NOT_APPLICABLE
     if lacks(record, IONS):
         return LACKING
-    h = floor_of_hydrogen(record.p)
-    if record.p % 100 == 0:
-        return WITHIN if balance_holds(record, h) else OUTSIDE
-    return verdict_between(h, balance_sides(record))
+    return verdict_of(record, balance_holds, balance_sides)
 
 
 def conductivity_holds(record, x):
@@ -273,10 +278,7 @@ def conductivity_sides(record):
 def conductivity_check(record):
     if lacks(record, IONS):
         return LACKING
-    h = floor_of_hydrogen(record.p)
-    if record.p % 100 == 0:
-        return WITHIN if conductivity_holds(record, h) else OUTSIDE
-    return verdict_between(h, conductivity_sides(record))
+    return verdict_of(record, conductivity_holds, conductivity_sides)
 
 
 def sodium_chloride(record):

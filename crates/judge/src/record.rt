@@ -8,6 +8,7 @@ ghost use mathlib.Core.Path.{_≡_};
 ghost use Prim.Native.Nat.{_<_};
 ghost use lib.ListN.{length};
 ghost use Rattle.refusal.specs.Outcome.Outcome.{given};
+ghost use Rattle.reading.specs.Answers.{readingOutcome};
 ghost use Rattle.hydrogen.specs.Floors.{floorAt};
 ghost use Rattle.judge.specs.Record.{recordWords, readings, phOf, readAt, isGiven, allBelow, between, accepted, acceptedRest, readingAt};
 ghost use Rattle.judge.specs.Tested.{testedOutcome};
@@ -32,7 +33,7 @@ pub enum Tested {
     Refused(Refusal),
 }
 
-// Tests 1 to 4.
+// Tests 1 to 4, and then the rest.
 pub fn test(words: &[u32]) -> Tested
     ensures { λ r. ⌜ testedOutcome r ≡ accepted (now (words .entry)) (given (floorAt (phOf (now (words .entry))))) ⌝ }
 {
@@ -95,8 +96,7 @@ fn is_reading(words: &[u32], i: usize) -> bool
     requires { ⌜ (length (now words) ≡ recordWords) × (i < readings) ⌝ }
     ensures { λ r. ⌜ r ≡ isGiven (readAt (now (words .entry)) i) ⌝ }
 {
-    let at = FIRST_READING + 2 * i;
-    match Reading::from_words(words[at], words[at + 1]) {
+    match read_at(words, i) {
         ReadingResult::Given(_) => true,
         ReadingResult::Refused(_) => false,
     }
@@ -107,9 +107,17 @@ pub fn reading_at(words: &[u32], i: usize) -> Reading
     requires { ⌜ (length (now words) ≡ recordWords) × (i < readings) ⌝ }
     ensures { λ r. ⌜ r ≡ readingAt (now (words .entry)) i ⌝ }
 {
-    let at = FIRST_READING + 2 * i;
-    match Reading::from_words(words[at], words[at + 1]) {
+    match read_at(words, i) {
         ReadingResult::Given(r) => r,
         ReadingResult::Refused(_) => Reading::Missing,
     }
+}
+
+// The two words of reading i.
+fn read_at(words: &[u32], i: usize) -> ReadingResult
+    requires { ⌜ (length (now words) ≡ recordWords) × (i < readings) ⌝ }
+    ensures { λ r. ⌜ readingOutcome r ≡ readAt (now (words .entry)) i ⌝ }
+{
+    let at = FIRST_READING + 2 * i;
+    Reading::from_words(words[at], words[at + 1])
 }

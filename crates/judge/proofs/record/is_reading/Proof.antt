@@ -1,34 +1,13 @@
 -- The words of a reading were read: the answer is whether they gave one.
 use mathlib.Core.Path.{sym, ap, _∙_}
 use Rattle.reading.specs.Answers.{readingOutcome}
-use Rattle.judge.specs.Record.{readAt, isGiven}
+use Rattle.judge.specs.Record.{isGiven}
 use borrow.Author.Needs.{needs}
 use Rattle.judge.proofs.record.is_reading.Statement.{statement}
 use Rattle.judge.proofs.record.is_reading.Tie as tie
 
-mul-at : tie.Need-mul-at
-mul-at c = search needs
-
-add-at : tie.Need-add-at
-add-at c = search needs
-
-mul-from-words : tie.Need-mul-from-words
-mul-from-words c = search needs
-
-shared-slice-read-from-words : tie.Need-shared-slice-read-from-words
-shared-slice-read-from-words c = search needs
-
-add-from-words : tie.Need-add-from-words
-add-from-words c = search needs
-
-mul-from-words-2 : tie.Need-mul-from-words-2
-mul-from-words-2 c = search needs
-
-shared-slice-read-from-words-2 : tie.Need-shared-slice-read-from-words-2
-shared-slice-read-from-words-2 c = search needs
-
-from-words-requires : tie.Need-from-words-requires
-from-words-requires c κs = search needs
+read-at-requires : tie.Need-read-at-requires
+read-at-requires c κs = search needs
 
 enum-told : tie.Need-enum-told
 enum-told c = search needs
@@ -37,26 +16,10 @@ enum-told-2 : tie.Need-enum-told-2
 enum-told-2 c = search needs
 
 returns : tie.Need-returns
-unfolding readAt
-returns c = ap isGiven (sym (ap readingOutcome (c .enum-told .given .1)) ∙ c .before .before .from-words .ensures .0)
+returns c = ap isGiven (sym (ap readingOutcome (c .enum-told .given .1)) ∙ c .before .before .read-at .ensures)
 
 returns-2 : tie.Need-returns-2
-unfolding readAt
-returns-2 c = ap isGiven (sym (ap readingOutcome (c .enum-told2 .given .1)) ∙ c .before .before .from-words .ensures .0)
+returns-2 c = ap isGiven (sym (ap readingOutcome (c .enum-told2 .given .1)) ∙ c .before .before .read-at .ensures)
 
 pub is-reading-spec : {M : Type 1} → statement M
-is-reading-spec =
-    tie.close
-    (tie.spec
-    mul-at
-    add-at
-    mul-from-words
-    shared-slice-read-from-words
-    add-from-words
-    mul-from-words-2
-    shared-slice-read-from-words-2
-    from-words-requires
-    enum-told
-    enum-told-2
-    returns
-    returns-2)
+is-reading-spec = tie.close (tie.spec read-at-requires enum-told enum-told-2 returns returns-2)
