@@ -1,7 +1,7 @@
 -- Document 01, 'A record': the fields of 25 words; and the record's own tests, 1 to 7 in that order.
 use mathlib.Core.Bool.{Bool, true, false, _&&_}
 use mathlib.Core.List.{List}
-use Prim.Native.Nat.{ℕ, zero, suc, _+_, _*_}
+use Prim.Native.Nat.{ℕ, zero, suc, _+_, _-_, _*_}
 use lib.Dec.{leb, eqb}
 use lib.ListN.{length, getD}
 use Rattle.refusal.specs.Outcome.{Outcome, demand}
@@ -99,3 +99,11 @@ massIn (refused n) = 0
 
 unfoldable pub massOf : Reading → ℕ
 massOf r = massIn (amountOf r)
+
+-- 'element 1 to 10 in reading order'
+abbrev pub isElement : ℕ → Bool
+isElement e = between 1 readings e
+
+-- an element that 'isn't missing in the sample'; slices that are no records have none
+unfoldable pub hasReading : List ℕ → ℕ → Bool
+hasReading s e = eqb (length s) recordWords && (isElement e && present (readingAt s (e - 1)))

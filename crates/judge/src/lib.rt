@@ -15,7 +15,7 @@ use record::Tested;
 use refusal::Refusal;
 ghost use mathlib.Core.Path.{_≡_};
 ghost use Rattle.refusal.specs.Outcome.Outcome.{given};
-ghost use Rattle.judge.specs.Record.{sameSampleOf};
+ghost use Rattle.judge.specs.Record.{sameSampleOf, isElement, hasReading};
 ghost use Rattle.judge.specs.Verdicts.{verdictNumber};
 ghost use Rattle.judge.specs.Judgements.{Four, judgementOutcome, judgementOf};
 ghost use Rattle.judge.specs.Truth.{Truth};
@@ -23,6 +23,9 @@ ghost use Rattle.judge.specs.Agreement.{agreementOutcome, agreementOf};
 
 // The words of a record.
 pub const WORDS: usize = 25;
+
+// Where the sample number stands.
+pub const NUMBER: usize = 0;
 
 // A charge in u, which is 10^-9 µeq/L, held apart from mass and conductivity by its type.
 pub struct Charge(pub u64);
@@ -114,8 +117,29 @@ pub fn same_sample(first: &[u32], second: &[u32]) -> bool
     if second.len() != WORDS {
         return false;
     }
-    if first[record::NUMBER] != second[record::NUMBER] {
+    if first[NUMBER] != second[NUMBER] {
         return false;
     }
     first[record::KIND] == second[record::KIND]
+}
+
+// Whether a number is that of an element: 1 to 10, in reading order.
+pub fn is_element(element: u32) -> bool
+    ensures { λ r. ⌜ r ≡ isElement element ⌝ }
+{
+    record::in_range(1, record::READINGS as u32, element)
+}
+
+// Whether a record has a reading of an element that is not missing. Slices that are no records have none.
+pub fn has_reading(words: &[u32], element: u32) -> bool
+    ensures { λ r. ⌜ r ≡ hasReading (now (words .entry)) element ⌝ }
+{
+    if words.len() != WORDS {
+        return false;
+    }
+    if !is_element(element) {
+        return false;
+    }
+    let r = record::reading_at(words, element as usize - 1);
+    amounts::is_present(r)
 }

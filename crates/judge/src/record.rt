@@ -1,4 +1,5 @@
 // The fields of a record (document 01, 'A record'), read by index, and the record's own tests, 1 to 7 in that order.
+use crate::NUMBER;
 use crate::WORDS;
 use hydrogen::FloorResult;
 use reading::Reading;
@@ -13,8 +14,6 @@ ghost use Rattle.hydrogen.specs.Floors.{floorAt};
 ghost use Rattle.judge.specs.Record.{recordWords, readings, phOf, readAt, isGiven, allBelow, between, accepted, acceptedRest, readingAt};
 ghost use Rattle.judge.specs.Tested.{testedOutcome};
 
-pub const NUMBER: usize = 0;
-
 pub const KIND: usize = 1;
 
 pub const PH: usize = 2;
@@ -25,7 +24,7 @@ pub const ALKALINITY: usize = 4;
 // Ten readings of two words.
 const FIRST_READING: usize = 5;
 
-const READINGS: usize = 10;
+pub const READINGS: usize = 10;
 
 // A record that its own tests accept, with the floor of hydrogen at its pH; or the first of them that refuses it.
 pub enum Tested {
@@ -69,7 +68,7 @@ fn test_rest(words: &[u32], floor: u64) -> Tested
     Tested::Accepted(floor)
 }
 
-fn in_range(least: u32, most: u32, x: u32) -> bool
+pub fn in_range(least: u32, most: u32, x: u32) -> bool
     ensures { λ r. ⌜ r ≡ between least most x ⌝ }
 {
     if x < least {

@@ -2,3 +2,4 @@
 pub mod Testing
 pub mod Rows
 pub mod Outcomes
+pub mod LentLaws

@@ -1,4 +1,5 @@
-// The refusals of document 01, each under a name, with the paper's number.
+// The refusals of document 01, each under a name, with the paper's number; and the answer of a call that writes to a lent
+// slice.
 ghost use mathlib.Core.Path.{_≡_};
 ghost use Rattle.refusal.specs.Numbers.{numberOf};
 
@@ -40,4 +41,10 @@ impl Refusal {
             Refusal::OutputLength => 13,
         }
     }
+}
+
+// What a call that writes to a lent slice answers: how long its answer there is, or why nothing was written.
+pub enum Written {
+    Length(usize),
+    Refused(Refusal),
 }

@@ -1,0 +1,23 @@
+-- For the crates above: what is answered to a chart whose counts fit, and the values of two lists in one.
+use mathlib.Core.Path.{_≡_}
+use mathlib.Core.Bool.{true, false, _&&_}
+use mathlib.Core.List.{List, _++_}
+use Prim.Native.Nat.{ℕ}
+use lib.ListN.{length}
+use Rattle.refusal.specs.Outcome.Outcome.{given, refused}
+use Rattle.refusal.specs.Numbers.{numberOf}
+use Rattle.refusal.specs.declared.Refusal.the-variants as refusal
+use Rattle.chart.specs.Charts.{isValue, allValues, countsFit, tested, lastWord, lastSignalOf}
+use Rattle.chart.proofs.EveryLaws.{every-append}
+use Rattle.chart.proofs.AnswerLaws as answers
+
+pub values-append : (a l : List ℕ) → allValues (a ++ l) ≡ (allValues a && allValues l)
+values-append a l = every-append isValue a l
+
+module _ (a l : List ℕ) (fits : countsFit (length a) (length l) ≡ true) where
+  pub last-given : allValues a ≡ true → allValues l ≡ true → lastSignalOf a l ≡ given (lastWord a l)
+  last-given p q = answers.last-given a l (record { counts = fits; setup = p; later = q })
+
+  pub last-refused : (allValues a && allValues l) ≡ false → lastSignalOf a l ≡ refused (numberOf refusal.Chart)
+  unfolding lastSignalOf tested
+  last-refused e = rw (fits, e)

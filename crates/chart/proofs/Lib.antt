@@ -1,0 +1,11 @@
+-- The laws behind this crate's contracts. Other crates cite `Laws`, and nothing else of it.
+mod EveryLaws
+mod OrderLaws
+mod SpreadLaws
+mod SumLaws
+mod RoomLaws
+mod SevenLaws
+mod WordLaws
+mod TestedLaws
+mod AnswerLaws
+pub mod Laws

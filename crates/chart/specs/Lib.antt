@@ -1,0 +1,6 @@
+pub mod Setups
+pub mod Rules
+pub mod Charts
+pub mod Examples
+pub mod Tested
+pub mod Room

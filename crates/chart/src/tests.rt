@@ -1,0 +1,43 @@
+// The tests of a chart alone: refusal 9, then 10. The length of the output, 13, is tested after them.
+use crate::counts_fit;
+use refusal::Refusal;
+ghost use mathlib.Core.Path.{_≡_};
+ghost use Rattle.refusal.specs.Outcome.Outcome.{given};
+ghost use Rattle.chart.specs.Charts.{allValues, tested};
+ghost use Rattle.chart.specs.Tested.{testedOutcome};
+
+// In µg/L.
+const GREATEST_VALUE: u32 = 200000;
+
+pub enum Tested {
+    Accepted,
+    Refused(Refusal),
+}
+
+pub fn test(setup: &[u32], later: &[u32]) -> Tested
+    ensures { λ r. ⌜ testedOutcome r ≡ tested (now (setup .entry)) (now (later .entry)) (given tt) ⌝ }
+{
+    if !counts_fit(setup.len(), later.len()) {
+        return Tested::Refused(Refusal::Count);
+    }
+    if !are_values(setup) {
+        return Tested::Refused(Refusal::Chart);
+    }
+    if !are_values(later) {
+        return Tested::Refused(Refusal::Chart);
+    }
+    Tested::Accepted
+}
+
+fn are_values(words: &[u32]) -> bool
+    ensures { λ r. ⌜ r ≡ allValues (now (words .entry)) ⌝ }
+{
+    let mut i: usize = 0;
+    while i < words.len() {
+        if words[i] > GREATEST_VALUE {
+            return false;
+        }
+        i += 1;
+    }
+    true
+}
