@@ -14,6 +14,7 @@ use Rattle.judge.specs.Judgements.{Four, verdictsOf, judgementOf}
 use Rattle.judge.specs.Agreement.{agreementOf, agrees}
 use Rattle.judge.specs.Truth.{Truth}
 use Rattle.judge.proofs.AcceptedLaws.{Valid, accepted-given, valid-accepted}
+use Rattle.judge.proofs.MostLaws.{verdicts-most}
 use Rattle.judge.proofs.JudgeLaws as judging
 
 module _ (s : List ℕ) (v : Four) (judged : judgementOf s ≡ given v) where
@@ -34,6 +35,10 @@ module _ (s : List ℕ) (v : Four) (judged : judgementOf s ≡ given v) where
   -- and they are true at H
   pub judged-truth : Truth s v
   judged-truth = judging.told s v judged
+
+  -- no number among them is above 4
+  pub judged-most : (v .balance ≤ 4) × (v .conductivity ≤ 4) × (v .ratio ≤ 4) × (v .nitrogen ≤ 4)
+  judged-most = rw judged-is (verdicts-most s)
 
 -- an accepted record is judged
 pub valid-judged : (s : List ℕ) → Valid s → judgementOf s ≡ given (verdictsOf s)

@@ -24,4 +24,5 @@ mod RatioProofs
 mod TruthProofs
 mod CheckInputs
 mod JudgeLaws
+mod MostLaws
 pub mod Laws

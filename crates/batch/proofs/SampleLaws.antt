@@ -1,0 +1,157 @@
+-- A sample at the front of the words: too short, refused or taken. And the rows made of those before it, from the start of
+-- the loop over the samples to each of its ends.
+use mathlib.Core.Path.{_≡_, refl, sym, ap, _∙_}
+use mathlib.Core.List.{List, [], _∷_, _++_, append-assoc, append-nil}
+use Prim.Native.Nat.{ℕ, _+_, _-_, _*_, _≤_, _<_}
+use native.Mathlib.Omega.{arith}
+use lib.ListN.{length, getD, take, drop, length-append, length-drop}
+use lib.Seq.{take-suc, drop-drop}
+use borrow.Author.Tests.{le-leb, lt-leb, eq-eqb, ne-eqb}
+use Rattle.refusal.specs.Outcome.Outcome.{given, refused}
+use Rattle.refusal.specs.Numbers.{numberOf}
+use Rattle.refusal.specs.declared.Refusal.the-variants as refusal
+use Rattle.judge.specs.Record.{recordWords}
+use Rattle.judge.specs.Judgements.{Four, judgementOf}
+use Rattle.batch.specs.FromFront.{Read, taken, many}
+use Rattle.batch.specs.Batches.{Sample, mostSamples, sampleOf, samplesOf}
+use Rattle.batch.specs.Rows.{rowWords, rowWith}
+use Rattle.batch.specs.Said.{bufferWords, flaggedBy, rowBy, rowsBy, samplesAnswer, placed}
+use Rattle.batch.proofs.ManyLaws.{then-taken, then-refused, many-none, many-refused, many-next, section-short, section-over, section-begins}
+use Rattle.batch.proofs.SliceLaws.{part-of}
+use Rattle.batch.proofs.PlaceLaws.{placed-take, placed-length}
+
+-- ---- one sample
+
+sample-short : (s : List ℕ) → length s < recordWords → sampleOf s ≡ refused (numberOf refusal.BatchLength)
+unfolding sampleOf
+sample-short s h = rw (lt-leb recordWords (length s) h)
+
+module _ (s : List ℕ) (h : recordWords ≤ length s) where
+  sample-refused : (n : ℕ) → judgementOf (take recordWords s) ≡ refused n → sampleOf s ≡ refused n
+  unfolding sampleOf
+  sample-refused n e = rw (le-leb recordWords (length s) h, e)
+
+  sample-taken : (v : Four) → judgementOf (take recordWords s) ≡ given v
+      → sampleOf s ≡ taken (record { words = take recordWords s; verdicts = v }) (drop recordWords s)
+  unfolding sampleOf
+  sample-taken v e = rw (le-leb recordWords (length s) h, e)
+
+-- ---- rows
+
+rows-more : (es gs : List ℕ) (before : List Sample) (a : Sample) → rowsBy es gs (before ++ a ∷ []) ≡ rowsBy es gs before ++ rowBy es gs a
+unfolding rowsBy
+rows-more es gs [] a = append-nil (rowBy es gs a)
+rows-more es gs (b ∷ before) a = rw (rows-more es gs before a) (sym (append-assoc (rowBy es gs b) (rowsBy es gs before) (rowBy es gs a)))
+
+-- ---- the section
+
+abbrev sampleAfter : List Sample → List ℕ → Read Sample
+sampleAfter before = sampleOf
+
+module _ (es gs words : List ℕ) where
+  pub samples-short : length words < 1 → samplesAnswer es gs words ≡ refused (numberOf refusal.BatchLength)
+  unfolding samplesAnswer
+  samples-short h = then-refused _ (section-short sampleAfter mostSamples words h)
+
+  pub samples-over : 1 ≤ length words → mostSamples < getD words 0 0 → samplesAnswer es gs words ≡ refused (numberOf refusal.Count)
+  unfolding samplesAnswer
+  samples-over h l = then-refused _ (section-over sampleAfter mostSamples words h l)
+
+-- ---- the loop
+
+-- i of count samples have been read, up to the index at, and their rows are the first words of the buffer
+pub record Making (words : List ℕ) (count : ℕ) (es gs buffer : List ℕ) (at size i : ℕ) : Type 0 where
+  pub turns : i ≤ count
+  pub few : count ≤ mostSamples
+  pub inside : at ≤ length words
+  pub made : size ≡ 1 + rowWords * i
+  pub room : length buffer ≡ bufferWords
+  pub before : List Sample
+  pub counted : length before ≡ i
+  pub rest : samplesOf words ≡ many sampleAfter (count - i) before (drop at words)
+  pub rows : take size buffer ≡ count ∷ rowsBy es gs before
+
+pub making-begins : (words : List ℕ) (count : ℕ) (es gs buffer : List ℕ)
+    → 1 ≤ length words → getD words 0 0 ≡ count → count ≤ mostSamples → length buffer ≡ bufferWords → getD buffer 0 0 ≡ count
+    → Making words count es gs buffer 1 1 0
+unfolding rowsBy
+making-begins words count es gs buffer h e l b f =
+    record {
+      turns = omega arith;
+      few = l;
+      inside = h;
+      made = refl;
+      room = b;
+      before = [];
+      counted = refl;
+      rest = section-begins sampleAfter mostSamples words count h e l;
+      rows = take-suc buffer 0 0 (omega arith) ∙ ap (λ (n : ℕ). n ∷ []) f;
+    }
+
+module _ (words : List ℕ) (count : ℕ) (es gs buffer : List ℕ) (at size i : ℕ) (m : Making words count es gs buffer at size i) where
+  -- the record as the code lends it
+  abbrev lent : List ℕ
+  lent = take (at + recordWords - at) (drop at words)
+
+  same-judgement : judgementOf (take recordWords (drop at words)) ≡ judgementOf lent
+  same-judgement = ap judgementOf (sym (part-of words at recordWords))
+
+  -- a turn: the sample is taken, and its row placed
+  pub making-next : (v : Four) (row after : List ℕ) → i < count → at + recordWords ≤ length words
+      → judgementOf lent ≡ given v → row ≡ rowWith lent v (flaggedBy es gs lent) → after ≡ placed buffer size row
+      → Making words count es gs after (at + recordWords) (size + rowWords) (i + 1)
+  making-next v row after l h e r p =
+      let a : Sample = record { words = take recordWords (drop at words); verdicts = v } in
+      let same : row ≡ rowBy es gs a = r ∙ ap (λ (w : List ℕ). rowWith w v (flaggedBy es gs w)) (part-of words at recordWords) in
+      let six : length row ≡ rowWords = ap length same in
+      let fits : size + length row ≤ length buffer = omega (arith, m .few, m .made, m .room, six) in
+      let long : recordWords ≤ length (drop at words) = omega (arith, length-drop at words) in
+      record {
+        turns = omega arith;
+        few = m .few;
+        inside = h;
+        made = omega (arith, m .made);
+        room = ap length p ∙ placed-length buffer row size fits ∙ m .room;
+        before = m .before ++ a ∷ [];
+        counted = length-append (m .before) (a ∷ []) ∙ ap (λ (n : ℕ). n + 1) (m .counted);
+        rest = m .rest
+            ∙ many-next sampleAfter count i (m .before) (drop at words) l (sample-taken (drop at words) long v (same-judgement ∙ e))
+            ∙ ap (many sampleAfter (count - (i + 1)) (m .before ++ a ∷ [])) (drop-drop recordWords at words);
+        rows = ap (take (size + rowWords)) p
+            ∙ ap (λ (n : ℕ). take (size + n) (placed buffer size row)) (sym six)
+            ∙ placed-take buffer row size fits
+            ∙ ap (λ (t : List ℕ). t ++ row) (m .rows)
+            ∙ ap (λ (t : List ℕ). count ∷ (rowsBy es gs (m .before) ++ t)) same
+            ∙ ap (λ (t : List ℕ). count ∷ t) (sym (rows-more es gs (m .before) a));
+      }
+
+  refused-there : (n : ℕ) → i < count → sampleOf (drop at words) ≡ refused n → samplesAnswer es gs words ≡ refused n
+  unfolding samplesAnswer
+  refused-there n l e = then-refused _ (m .rest ∙ many-refused sampleAfter count i (m .before) (drop at words) l e)
+
+  -- the ways out
+  pub making-short : i < count → length words < at + recordWords → samplesAnswer es gs words ≡ refused (numberOf refusal.BatchLength)
+  making-short l h =
+      let short : length (drop at words) < recordWords = omega (arith, length-drop at words, m .inside) in
+      refused-there _ l (sample-short (drop at words) short)
+
+  pub making-refused : (n : ℕ) → i < count → at + recordWords ≤ length words → judgementOf lent ≡ refused n → samplesAnswer es gs words ≡ refused n
+  making-refused n l h e =
+      let long : recordWords ≤ length (drop at words) = omega (arith, length-drop at words) in
+      refused-there n l (sample-refused (drop at words) long n (same-judgement ∙ e))
+
+  all-read : count ≤ i → samplesOf words ≡ taken (m .before) (drop at words)
+  all-read l = m .rest ∙ many-none sampleAfter count i (m .before) (drop at words) l
+
+  pub making-left : count ≤ i → at < length words → samplesAnswer es gs words ≡ refused (numberOf refusal.BatchLength)
+  unfolding samplesAnswer
+  making-left l h =
+      let some : length (drop at words) ≡ 0 → ⊥ = λ z. omega (arith, length-drop at words) in
+      then-taken _ (all-read l) ∙ rw (ne-eqb (length (drop at words)) 0 some)
+
+  pub making-done : count ≤ i → length words ≤ at → samplesAnswer es gs words ≡ given (take size buffer)
+  unfolding samplesAnswer
+  making-done l h =
+      let none : length (drop at words) ≡ 0 = omega (arith, length-drop at words) in
+      let all : length (m .before) ≡ count = omega (arith, m .counted, m .turns) in
+      then-taken _ (all-read l) ∙ rw (eq-eqb (length (drop at words)) 0 none) (ap given (ap (λ (n : ℕ). n ∷ rowsBy es gs (m .before)) all ∙ sym (m .rows)))

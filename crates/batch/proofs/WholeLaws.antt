@@ -1,0 +1,122 @@
+-- From an answer to the returned value and the lent slice, one law for each way out; and from the answer to the samples to
+-- the answer to the batch.
+use mathlib.Core.Path.{_≡_, refl, sym, ap, _∙_}
+use mathlib.Core.Bool.{Bool, true, false}
+use mathlib.Core.List.{List, [], _∷_}
+use Prim.Native.Nat.{ℕ, _-_, _≤_, _<_}
+use lib.Dec.{eqb}
+use lib.ListN.{length, take, drop}
+use lib.Seq.{length-take-le}
+use borrow.Author.Tests.{le-leb, lt-leb}
+use Rattle.refusal.specs.Outcome.{Outcome, demand}
+use Rattle.refusal.specs.Outcome.Outcome.{given, refused}
+use Rattle.refusal.specs.Numbers.{numberOf}
+use Rattle.refusal.specs.Lent.{fitting, lengthOf, lentAfter, writtenOutcome}
+use Rattle.refusal.specs.declared.Refusal.{Refusal}
+use Rattle.refusal.specs.declared.Refusal.the-variants as refusal
+use Rattle.refusal.specs.declared.Written.{Written}
+use Rattle.refusal.specs.declared.Written.the-variants as written
+use Rattle.batch.specs.declared.Ended.{Ended}
+use Rattle.batch.specs.declared.Ended.the-variants as ended
+use Rattle.batch.specs.declared.ChartColumns.{ChartColumns}
+use Rattle.batch.specs.FromFront.{Read, taken, then}
+use Rattle.batch.specs.Batches.{Chart, Sample, elementsOf, chartsOf, samplesOf, nothingLeft, batchOf}
+use Rattle.batch.specs.Rows.{answeredBy, rowsOf, batchAnswer}
+use Rattle.batch.specs.Said.{signalsIn, rowsBy, samplesAnswer, MadeSaid, ChartsEnded, ChartsSaid, placed}
+use Rattle.batch.proofs.SliceLaws.{rest-of, front-of}
+use Rattle.batch.proofs.ManyLaws.{then-taken, then-refused}
+use Rattle.batch.proofs.PlaceLaws.{placed-front}
+use Rattle.batch.proofs.FlagLaws.{flag-same}
+
+-- ---- the ways out, where x was to be answered and the lent slice was old
+
+abbrev Done : Outcome (List ℕ) → List ℕ → Written → List ℕ → Type 0
+Done x old r new = (writtenOutcome r ≡ lengthOf (fitting (length old) x)) × (new ≡ lentAfter (fitting (length old) x) old)
+
+module _ (x : Outcome (List ℕ)) (old : List ℕ) where
+  by-refused : (why : Refusal) → x ≡ refused (numberOf why) → Done x old (written.Refused why) old
+  by-refused why e = (rw e, rw e)
+
+  module _ (answer : List ℕ) (e : x ≡ given answer) where
+    by-over : length old < length answer → Done x old (written.Refused refusal.OutputLength) old
+    by-over l = (rw (e, lt-leb _ _ l), rw (e, lt-leb _ _ l))
+
+    by-placed : length answer ≤ length old → Done x old (written.Length (length answer)) (placed old 0 answer)
+    by-placed l = (rw (e, le-leb _ _ l), rw (e, le-leb _ _ l) (placed-front old answer))
+
+-- ---- how making x in a buffer ended
+
+module _ (x : Outcome (List ℕ)) (buffer : List ℕ) (r : Ended) (m : MadeSaid r x buffer) where
+  pub made-refused : (old : List ℕ) (why : Refusal) → r ≡ ended.Refused why → Done x old (written.Refused why) old
+  made-refused old why e = by-refused x old why (rw e at m)
+
+  module _ (size : ℕ) (e : r ≡ ended.Whole size) where
+    said : (x ≡ given (take size buffer)) × (size ≤ length buffer)
+    said = rw e at m
+
+    pub made-fits : size ≤ length buffer
+    made-fits = said .1
+
+    whole : length (take size buffer) ≡ size
+    whole = length-take-le size buffer made-fits
+
+    pub made-over : (old : List ℕ) → length old < size → Done x old (written.Refused refusal.OutputLength) old
+    made-over old l = by-over x old (take size buffer) (said .0) (rw whole l)
+
+    pub made-placed : (old new : List ℕ) → size ≤ length old → new ≡ placed old 0 (take (size - 0) (drop 0 buffer)) → Done x old (written.Length size) new
+    made-placed old new l p =
+        let d = by-placed x old (take size buffer) (said .0) (rw whole l) in
+        (ap given (sym whole) ∙ d .0, p ∙ ap (placed old 0) (front-of buffer size) ∙ d .1)
+
+-- ---- the batch
+
+rows-same : (cs : List Chart) (ss : List Sample) → rowsBy (elementsOf cs) (signalsIn cs) ss ≡ rowsOf cs ss
+unfolding rowsBy rowsOf
+rows-same cs [] = refl
+rows-same cs (a ∷ ss) = rw (flag-same cs (a .words), rows-same cs ss)
+
+charts-refused : (s : List ℕ) (n : ℕ) → chartsOf s ≡ refused n → batchAnswer s ≡ refused n
+unfolding batchAnswer batchOf
+charts-refused s n e = ap answeredBy (then-refused _ e)
+
+charts-taken : (s rest : List ℕ) (cs : List Chart) → chartsOf s ≡ taken cs rest → samplesAnswer (elementsOf cs) (signalsIn cs) rest ≡ batchAnswer s
+unfolding batchAnswer batchOf samplesAnswer
+charts-taken s rest cs e = by-samples (samplesOf rest) ∙ sym (ap answeredBy (then-taken _ e))
+  where
+    left : (ss : List Sample) (none : Bool)
+        → demand none (numberOf refusal.BatchLength) (given (length ss ∷ rowsBy (elementsOf cs) (signalsIn cs) ss))
+        ≡ answeredBy (demand none (numberOf refusal.BatchLength) (given (record { charts = cs; samples = ss })))
+    left ss true = ap (λ (t : List ℕ). given (length ss ∷ t)) (rows-same cs ss)
+    left ss false = refl
+
+    by-samples : (x : Read (List Sample)) → then x (λ ss t. nothingLeft t (given (length ss ∷ rowsBy (elementsOf cs) (signalsIn cs) ss)))
+        ≡ answeredBy (then x (λ ss t. nothingLeft t (given (record { charts = cs; samples = ss }))))
+    by-samples (given p) = left (p .0) (eqb (length (p .1)) 0)
+    by-samples (refused n) = refl
+
+-- how reading the charts ended: the batch is refused, or its samples are judged. The columns and the words are those that the
+-- code lends
+module _ (s : List ℕ) (columns : ChartColumns) (m : ChartsSaid s columns) where
+  pub read-refused : (old : List ℕ) (why : Refusal) → columns .ended ≡ ended.Refused why → Done (batchAnswer s) old (written.Refused why) old
+  read-refused old why e = by-refused (batchAnswer s) old why (charts-refused s (numberOf why) (rw e at m))
+
+  module _ (size : ℕ) (e : columns .ended ≡ ended.Whole size) where
+    read : ChartsEnded (ended.Whole size) (columns .count) (columns .elements) (columns .signals) s
+    read = rw e at m
+
+    pub read-size : size ≤ length s
+    read-size = read .2
+
+    pub read-counts : (columns .count ≤ length (columns .elements)) × (columns .count ≤ length (columns .signals))
+    read-counts = (read .5, read .6)
+
+    abbrev lent : Outcome (List ℕ)
+    lent = samplesAnswer (take (columns .count - 0) (drop 0 (columns .elements))) (take (columns .count - 0) (drop 0 (columns .signals))) (take (length s - size) (drop size s))
+
+    same : lent ≡ batchAnswer s
+    same =
+        rw (front-of (columns .elements) (columns .count), front-of (columns .signals) (columns .count), rest-of s size, read .3, read .4)
+        (charts-taken s (drop size s) (read .0) (read .1))
+
+    pub read-judged : (old : List ℕ) (r : Written) (new : List ℕ) → Done lent old r new → Done (batchAnswer s) old r new
+    read-judged old r new d = rw same at d

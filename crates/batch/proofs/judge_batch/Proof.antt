@@ -1,0 +1,103 @@
+-- Where the charts are refused, so is the batch; else the answer to its samples is the answer to it.
+use borrow.Author.Needs.{needs}
+use Rattle.batch.proofs.Laws.{reads-its-layout}
+use Rattle.batch.proofs.WholeLaws.{read-refused, read-size, read-counts, read-judged}
+use Rattle.batch.proofs.judge_batch.Statement.{statement}
+use Rattle.batch.proofs.judge_batch.Tie as tie
+
+read-requires : tie.Need-read-requires
+read-requires c κs = search needs
+
+enum-known-ended : tie.Need-enum-known-ended
+enum-known-ended c = search needs
+
+mul-judge-samples : tie.Need-mul-judge-samples
+mul-judge-samples c =
+    let told = c .before .before .before in
+    let size = read-size _ _ (told .before .before .read .ensures) _ (told .ended .given .1) in
+    search needs
+
+sub-judge-samples : tie.Need-sub-judge-samples
+sub-judge-samples c =
+    let told = c .before .before .before in
+    read-size _ _ (told .before .before .read .ensures) _ (told .ended .given .1)
+
+part-judge-samples-start : tie.Need-part-judge-samples-start
+part-judge-samples-start c =
+    let told = c .before .before .before in
+    let size = read-size _ _ (told .before .before .read .ensures) _ (told .ended .given .1) in
+    search needs
+
+part-judge-samples-end : tie.Need-part-judge-samples-end
+part-judge-samples-end c = search needs
+
+sub-judge-samples-2 : tie.Need-sub-judge-samples-2
+sub-judge-samples-2 c = search needs
+
+part-judge-samples-start-2 : tie.Need-part-judge-samples-start-2
+part-judge-samples-start-2 c = search needs
+
+part-judge-samples-end-2 : tie.Need-part-judge-samples-end-2
+part-judge-samples-end-2 c =
+    let told = c .before .before .before .before .before in
+    let counts = read-counts _ _ (told .before .before .read .ensures) _ (told .ended .given .1) in
+    search needs
+
+sub-judge-samples-3 : tie.Need-sub-judge-samples-3
+sub-judge-samples-3 c = search needs
+
+part-judge-samples-start-3 : tie.Need-part-judge-samples-start-3
+part-judge-samples-start-3 c = search needs
+
+part-judge-samples-end-3 : tie.Need-part-judge-samples-end-3
+part-judge-samples-end-3 c =
+    let told = c .before .before .before .before .before .before .before in
+    let counts = read-counts _ _ (told .before .before .read .ensures) _ (told .ended .given .1) in
+    search needs
+
+judge-samples-requires : tie.Need-judge-samples-requires
+judge-samples-requires c κs = search needs
+
+enum-known-ended-2 : tie.Need-enum-known-ended-2
+enum-known-ended-2 c = search needs
+
+same-length : tie.Need-same-length
+same-length c = search needs
+
+returns : tie.Need-returns
+returns c =
+    let judged = c .before .before in
+    let told = judged .before .before .before .before .before .before .before .before .before .before in
+    let columns = told .before .before in
+    let out = columns .before .before .before .args .out .now in
+    let d = read-judged _ _ (columns .read .ensures) _ (told .ended .given .1) out (judged .judge-samples .result) _ (judged .judge-samples .ensures) in
+    (d .0, (d .1, reads-its-layout))
+
+returns-2 : tie.Need-returns-2
+returns-2 c =
+    let columns = c .before .before .before in
+    let out = columns .before .before .before .args .out .now in
+    let d = read-refused _ _ (columns .read .ensures) out _ (c .before .ended2 .given .1) in
+    (d .0, (d .1, reads-its-layout))
+
+pub judge-batch-spec : {M : Type 1} → statement M
+judge-batch-spec =
+    tie.close
+    (tie.spec
+    read-requires
+    enum-known-ended
+    mul-judge-samples
+    sub-judge-samples
+    part-judge-samples-start
+    part-judge-samples-end
+    sub-judge-samples-2
+    part-judge-samples-start-2
+    part-judge-samples-end-2
+    sub-judge-samples-3
+    part-judge-samples-start-3
+    part-judge-samples-end-3
+    judge-samples-requires
+    enum-known-ended-2
+    same-length
+    returns
+    returns-2)

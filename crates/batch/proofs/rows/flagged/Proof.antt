@@ -1,0 +1,72 @@
+-- No chart before i flags the record: what is left of the columns decides.
+use mathlib.Core.Path.{_≡_, refl, sym, _∙_}
+use Prim.Native.Nat.{_-_, _≤_}
+use lib.ListN.{length, drop}
+use borrow.Author.Needs.{needs}
+use Rattle.batch.specs.Said.{flaggedBy}
+use Rattle.batch.proofs.FlagLaws.{flag-found, flag-next, flag-end}
+use Rattle.batch.proofs.rows.flagged.Statement.{statement}
+use Rattle.batch.proofs.rows.flagged.Tie as tie
+
+abbrev Inv-loop : tie.InvT-loop
+Inv-loop words elements signals i₀ i = (i ≤ length elements) × (flaggedBy elements signals words ≡ flaggedBy (drop i elements) (drop i signals) words)
+
+abbrev μ-loop : tie.MeasureT-loop
+μ-loop words elements signals i₀ i = length elements - i
+
+loop-holds : tie.Need-loop-holds Inv-loop μ-loop
+loop-holds c = (search needs, refl)
+
+mul-flagged-by : tie.Need-mul-flagged-by Inv-loop μ-loop
+mul-flagged-by c = search needs
+
+shared-slice-read-flagged-by : tie.Need-shared-slice-read-flagged-by Inv-loop μ-loop
+shared-slice-read-flagged-by c = search needs
+
+mul-flagged-by-2 : tie.Need-mul-flagged-by-2 Inv-loop μ-loop
+mul-flagged-by-2 c = search needs
+
+shared-slice-read-flagged-by-2 : tie.Need-shared-slice-read-flagged-by-2 Inv-loop μ-loop
+shared-slice-read-flagged-by-2 c = search needs
+
+flagged-by-requires : tie.Need-flagged-by-requires Inv-loop μ-loop
+flagged-by-requires c κs = search needs
+
+returns : tie.Need-returns Inv-loop μ-loop
+returns c =
+    let found = c .before .before .before .before in
+    let turn = found .before in
+    sym (turn .loop .inv .1 ∙ flag-found _ _ _ _ (found .loop-test .taken) (search needs) (sym (c .before .flagged-by .ensures) ∙ c .if1 .taken))
+
+add-i : tie.Need-add-i Inv-loop μ-loop
+add-i c = search needs
+
+loop-less : tie.Need-loop-less Inv-loop μ-loop
+loop-less c = search needs
+
+loop-again : tie.Need-loop-again Inv-loop μ-loop
+loop-again c =
+    let found = c .before .before .before .before in
+    let turn = found .before in
+    (search needs, turn .loop .inv .1 ∙ flag-next _ _ _ _ (found .loop-test .taken) (search needs) (sym (c .before .flagged-by .ensures) ∙ c .if1 .left))
+
+returns-2 : tie.Need-returns-2 Inv-loop μ-loop
+returns-2 c = sym (c .before .loop .inv .1 ∙ flag-end _ _ _ _ (c .loop-test .left))
+
+pub flagged-spec : {M : Type 1} → statement M
+flagged-spec =
+    tie.close
+    (tie.spec
+    Inv-loop
+    μ-loop
+    loop-holds
+    mul-flagged-by
+    shared-slice-read-flagged-by
+    mul-flagged-by-2
+    shared-slice-read-flagged-by-2
+    flagged-by-requires
+    returns
+    add-i
+    loop-less
+    loop-again
+    returns-2)

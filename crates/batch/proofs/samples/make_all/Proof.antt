@@ -1,0 +1,141 @@
+-- `Making` holds before each turn: the rows made so far are the first words of the buffer, and what is left of the words
+-- decides the rest. Each way out is a law of it.
+use mathlib.Core.Path.{_≡_, sym, ap, _∙_}
+use Prim.Native.Nat.{_-_}
+use native.Mathlib.Omega.{arith}
+use lib.ListN.{length}
+use borrow.Author.Needs.{needs}
+use Rattle.judge.specs.Judgements.{judgementOutcome}
+use Rattle.judge.proofs.Laws.{judged-length}
+use Rattle.batch.specs.Rows.{rowWords}
+use Rattle.batch.proofs.SampleLaws.{Making, making-begins, making-next, making-short, making-refused, making-left, making-done}
+use Rattle.batch.proofs.samples.make_all.Statement.{statement}
+use Rattle.batch.proofs.samples.make_all.Tie as tie
+
+abbrev Inv-loop : tie.InvT-loop
+Inv-loop words count elements signals buffer₀ at₀ size₀ i₀ buffer at size i = Making words count elements signals buffer at size i
+
+abbrev μ-loop : tie.MeasureT-loop
+μ-loop words count elements signals buffer₀ at₀ size₀ i₀ buffer at size i = count - i
+
+loop-holds : tie.Need-loop-holds Inv-loop μ-loop
+loop-holds c = search (needs, making-begins)
+
+add-end : tie.Need-add-end Inv-loop μ-loop
+add-end c = search needs
+
+same-length : tie.Need-same-length Inv-loop μ-loop
+same-length c = search needs
+
+returns : tie.Need-returns Inv-loop μ-loop
+returns c = search making-short
+
+mul-record : tie.Need-mul-record Inv-loop μ-loop
+mul-record c = search needs
+
+sub-record : tie.Need-sub-record Inv-loop μ-loop
+sub-record c = search needs
+
+part-record-start : tie.Need-part-record-start Inv-loop μ-loop
+part-record-start c = search needs
+
+part-record-end : tie.Need-part-record-end Inv-loop μ-loop
+part-record-end c = search needs
+
+judge-requires : tie.Need-judge-requires Inv-loop μ-loop
+judge-requires c κs = search needs
+
+enum-known-verdicts : tie.Need-enum-known-verdicts Inv-loop μ-loop
+enum-known-verdicts c = search needs
+
+row-requires : tie.Need-row-requires Inv-loop μ-loop
+row-requires c κs =
+    let j = c .before .before .before in
+    (judged-length _ _ (sym (j .judge .ensures .0) ∙ ap judgementOutcome (c .before .verdicts .given .1)), search needs)
+
+slice-aggregate-place : tie.Need-slice-aggregate-place Inv-loop μ-loop
+slice-aggregate-place c = search needs
+
+place-requires : tie.Need-place-requires Inv-loop μ-loop
+place-requires c κs =
+    let six : length (c .before .before .row .result) ≡ rowWords = ap length (c .before .before .row .ensures) in
+    let turn = c .before .before .before .before .before .before .before .before .before .before in
+    omega (arith, six, turn .loop .inv .made, turn .loop .inv .room)
+
+add-size : tie.Need-add-size Inv-loop μ-loop
+add-size c = search needs
+
+add-i : tie.Need-add-i Inv-loop μ-loop
+add-i c = search needs
+
+loop-less : tie.Need-loop-less Inv-loop μ-loop
+loop-less c = search needs
+
+loop-again : tie.Need-loop-again Inv-loop μ-loop
+loop-again c =
+    let placing = c .before .before in
+    let told = placing .before .before .before .before in
+    let judging = told .before .before .before in
+    let turn = judging .before .before .before .before in
+    making-next _ _ _ _ _ _ _ _ (turn .loop .inv) _ _ _ (search needs) (search needs)
+    (sym (judging .judge .ensures .0) ∙ ap judgementOutcome (told .before .verdicts .given .1))
+    (placing .before .before .before .row .ensures)
+    (placing .place .ensures)
+
+enum-known-why : tie.Need-enum-known-why Inv-loop μ-loop
+enum-known-why c = search needs
+
+same-length-2 : tie.Need-same-length-2 Inv-loop μ-loop
+same-length-2 c = search needs
+
+returns-2 : tie.Need-returns-2 Inv-loop μ-loop
+returns-2 c =
+    let judging = c .before .before .before in
+    let turn = judging .before .before .before .before in
+    making-refused _ _ _ _ _ _ _ _ (turn .loop .inv) _ (search needs) (search needs)
+    (sym (judging .judge .ensures .0) ∙ ap judgementOutcome (c .before .why .given .1))
+
+same-length-3 : tie.Need-same-length-3 Inv-loop μ-loop
+same-length-3 c = search needs
+
+returns-3 : tie.Need-returns-3 Inv-loop μ-loop
+returns-3 c = search making-left
+
+same-length-4 : tie.Need-same-length-4 Inv-loop μ-loop
+same-length-4 c = search needs
+
+returns-4 : tie.Need-returns-4 Inv-loop μ-loop
+returns-4 c =
+    let turn = c .before .before in
+    (search making-done, search needs)
+
+pub make-all-spec : {M : Type 1} → statement M
+make-all-spec =
+    tie.close
+    (tie.spec
+    Inv-loop
+    μ-loop
+    loop-holds
+    add-end
+    same-length
+    returns
+    mul-record
+    sub-record
+    part-record-start
+    part-record-end
+    judge-requires
+    enum-known-verdicts
+    row-requires
+    slice-aggregate-place
+    place-requires
+    add-size
+    add-i
+    loop-less
+    loop-again
+    enum-known-why
+    same-length-2
+    returns-2
+    same-length-3
+    returns-3
+    same-length-4
+    returns-4)

@@ -1,0 +1,5 @@
+pub mod FromFront
+pub mod Batches
+pub mod Rows
+pub mod Said
+pub mod Layout

@@ -1,0 +1,87 @@
+// Judges a batch (document 01, 'A batch'): control charts, then samples. The answer is the sample count, then a row a sample.
+mod charts;
+mod rows;
+mod samples;
+
+use refusal::Refusal;
+use refusal::Written;
+ghost use mathlib.Core.Path.{_≡_};
+ghost use lib.ListN.{length};
+ghost use Rattle.refusal.specs.Lent.{fitting, lengthOf, lentAfter, writtenOutcome};
+ghost use Rattle.batch.specs.Rows.{batchAnswer};
+ghost use Rattle.batch.specs.Layout.{ReadsItsLayout};
+ghost use Rattle.batch.specs.Said.{samplesAnswer};
+
+pub const MOST_CHARTS: usize = 10;
+
+pub const MOST_SAMPLES: usize = 400;
+
+// The words of a row.
+pub const ROW_WORDS: usize = 6;
+
+// The words of the longest answer.
+pub const MOST_ANSWER: usize = 1 + MOST_SAMPLES * ROW_WORDS;
+
+// What reading a chart finds: its element, the signal at its last later value and how many words it has; or why it is refused.
+pub enum ChartRead {
+    Chart {
+        element: u32,
+        signal: u32,
+        size: usize,
+    },
+    Refused(Refusal),
+}
+
+// How a part of the work ended: whole, with so many words, or refused.
+pub enum Ended {
+    Whole(usize),
+    Refused(Refusal),
+}
+
+// The charts' section: how reading it ended, how many charts it has, and each one's element and last signal.
+pub struct ChartColumns {
+    pub ended: Ended,
+    pub count: usize,
+    pub elements: [u32; MOST_CHARTS],
+    pub signals: [u32; MOST_CHARTS],
+}
+
+// Judges a batch, and writes the answer to the start of the lent slice. After a refusal that is as it was. The third promise
+// says that what was read of a batch is all that its words say.
+pub fn judge_batch(words: &[u32], out: &mut [u32]) -> Written
+    ensures answer { λ r. ⌜ writtenOutcome r ≡ lengthOf (fitting (length (now (out .entry))) (batchAnswer (now (words .entry)))) ⌝ }
+    ensures lent { λ _. ⌜ now (out .exit) ≡ lentAfter (fitting (length (now (out .entry))) (batchAnswer (now (words .entry)))) (now (out .entry)) ⌝ }
+    ensures layout { λ _. ⌜ ReadsItsLayout ⌝ }
+{
+    let read = charts::read(words);
+    let ended = read.ended;
+    match ended {
+        Ended::Whole(size) => {
+            let count = read.count;
+            let elements = read.elements;
+            let signals = read.signals;
+            judge_samples(&words[size..], &elements[0..count], &signals[0..count], out)
+        }
+        Ended::Refused(why) => Written::Refused(why),
+    }
+}
+
+// Judges the samples of a batch whose charts have been read. The rows are made in a buffer of its own: the lent slice is
+// written only when nothing can be refused any more.
+fn judge_samples(words: &[u32], elements: &[u32], signals: &[u32], out: &mut [u32]) -> Written
+    requires { ⌜ length (now elements) ≡ length (now signals) ⌝ }
+    ensures answer { λ r. ⌜ writtenOutcome r ≡ lengthOf (fitting (length (now (out .entry))) (samplesAnswer (now (elements .entry)) (now (signals .entry)) (now (words .entry)))) ⌝ }
+    ensures lent { λ _. ⌜ now (out .exit) ≡ lentAfter (fitting (length (now (out .entry))) (samplesAnswer (now (elements .entry)) (now (signals .entry)) (now (words .entry)))) (now (out .entry)) ⌝ }
+{
+    let mut buffer = [0u32; MOST_ANSWER];
+    match samples::make_rows(words, elements, signals, &mut buffer) {
+        Ended::Whole(size) => {
+            if out.len() < size {
+                return Written::Refused(Refusal::OutputLength);
+            }
+            rows::place(out, 0, &buffer[0..size]);
+            Written::Length(size)
+        }
+        Ended::Refused(why) => Written::Refused(why),
+    }
+}

@@ -1,0 +1,73 @@
+// The rows of an answer.
+use crate::ROW_WORDS;
+use judge::Verdicts;
+ghost use mathlib.Core.Path.{_≡_};
+ghost use mathlib.Core.Bool.{_&&_, not, cond};
+ghost use Prim.Native.Nat.{_+_, _≤_};
+ghost use lib.Dec.{eqb};
+ghost use lib.ListN.{length};
+ghost use Rattle.judge.specs.Record.{recordWords, hasReading};
+ghost use Rattle.judge.specs.Judgements.{numbersOf};
+ghost use Rattle.batch.specs.Rows.{rowWith};
+ghost use Rattle.batch.specs.Said.{flaggedBy, placed};
+
+// The row of a judged record.
+pub fn row(words: &[u32], verdicts: Verdicts, elements: &[u32], signals: &[u32]) -> [u32; ROW_WORDS]
+    requires { ⌜ (length (now words) ≡ recordWords) × (length (now elements) ≡ length (now signals)) ⌝ }
+    ensures { λ r. ⌜ r ≡ rowWith (now (words .entry)) (numbersOf verdicts) (flaggedBy (now (elements .entry)) (now (signals .entry)) (now (words .entry))) ⌝ }
+{
+    let balance = verdicts.balance;
+    let conductivity = verdicts.conductivity;
+    let ratio = verdicts.ratio;
+    let nitrogen = verdicts.nitrogen;
+    [
+        words[judge::NUMBER],
+        balance.number(),
+        conductivity.number(),
+        ratio.number(),
+        nitrogen.number(),
+        flag(flagged(words, elements, signals)),
+    ]
+}
+
+fn flag(is_flagged: bool) -> u32
+    ensures { λ r. ⌜ r ≡ cond «is_flagged» 1 0 ⌝ }
+{
+    if is_flagged { 1 } else { 0 }
+}
+
+// Whether some chart has a signal, and its element is not missing in the record.
+fn flagged(words: &[u32], elements: &[u32], signals: &[u32]) -> bool
+    requires { ⌜ length (now elements) ≡ length (now signals) ⌝ }
+    ensures { λ r. ⌜ r ≡ flaggedBy (now (elements .entry)) (now (signals .entry)) (now (words .entry)) ⌝ }
+{
+    let mut i: usize = 0;
+    while i < elements.len() {
+        if flagged_by(words, elements[i], signals[i]) {
+            return true;
+        }
+        i += 1;
+    }
+    false
+}
+
+fn flagged_by(words: &[u32], element: u32, signal: u32) -> bool
+    ensures { λ r. ⌜ r ≡ (not (eqb signal 0) && hasReading (now (words .entry)) element) ⌝ }
+{
+    if signal == 0 {
+        return false;
+    }
+    judge::has_reading(words, element)
+}
+
+// Copies the words of a row into the lent slice, from a place on.
+pub fn place(out: &mut [u32], at: usize, row: &[u32])
+    requires { ⌜ at + length (now row) ≤ length (now out) ⌝ }
+    ensures { λ _. ⌜ now (out .exit) ≡ placed (now (out .entry)) at (now (row .entry)) ⌝ }
+{
+    let mut i: usize = 0;
+    while i < row.len() {
+        out[at + i] = row[i];
+        i += 1;
+    }
+}
