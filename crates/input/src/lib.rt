@@ -4,7 +4,7 @@ ghost use Prim.Native.Nat.{_+_, _*_, _≤_, _<_};
 ghost use lib.ListN.{length};
 
 // The most words that one call reads.
-pub const MOST_WORDS: usize = 256;
+pub const MOST_WORDS: usize = 1024;
 
 const WORD_BYTES: usize = 4;
 

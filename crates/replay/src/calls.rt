@@ -1,5 +1,7 @@
 // The number of each call. A call prints its line and says true, or prints nothing and says false where the words are
 // not what it takes.
+use crate::batches;
+use crate::control_charts;
 use crate::dockets;
 use crate::floors;
 use crate::readings;
@@ -17,6 +19,13 @@ pub fn answer(call: u32, words: &[u32]) -> bool {
         7 => records::judge(words),
         8 => records::agree(words),
         9 => dockets::offers(words),
+        10 => control_charts::signals(words),
+        11 => control_charts::last_signal(words),
+        12 => batches::judge_batch(words),
+        13 => batches::list(words),
+        14 => records::has_reading(words),
+        15 => records::same_sample(words),
+        16 => dockets::follow(words),
         _ => false,
     }
 }

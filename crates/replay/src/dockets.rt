@@ -1,4 +1,5 @@
 // The calls of `docket`.
+use crate::lent;
 use crate::print;
 use docket::Answer;
 use docket::Docket;
@@ -63,5 +64,19 @@ pub fn offers(words: &[u32]) -> bool {
         at = end;
     }
     print::text(b"");
+    true
+}
+
+// Records one after another: the fresh docket after all of them, with the record that it holds if it took any.
+pub fn follow(words: &[u32]) -> bool {
+    let after = docket::follow(docket::fresh(), words);
+    let state = after.state;
+    print::two_numbers(b"followed ", place_of(state), after.count);
+    if after.count == 0 {
+        print::text(b"");
+        return true;
+    }
+    let held = after.held;
+    lent::print_words(&held);
     true
 }

@@ -27,8 +27,13 @@ pub fn part(text: &[u8]) {
 
 // Text and a number, and no end of the line.
 pub fn one_number(before: &[u8], n: u32) {
+    long_number(before, n as u64);
+}
+
+// The same of a number of 64 bits.
+pub fn long_number(before: &[u8], n: u64) {
     io::write_all(STDOUT_FILENO, before);
-    io::print_decimal(STDOUT_FILENO, n as u64);
+    io::print_decimal(STDOUT_FILENO, n);
 }
 
 // Text and two numbers, and no end of the line.

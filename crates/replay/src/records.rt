@@ -53,3 +53,37 @@ pub fn agree(words: &[u32]) -> bool {
     }
     agree_parts(words[0], &words[1..])
 }
+
+// An element, and any words: whether the record that they are has a reading of it.
+pub fn has_reading(words: &[u32]) -> bool {
+    if words.len() == 0 {
+        return false;
+    }
+    if judge::has_reading(&words[1..], words[0]) {
+        print::text(b"present");
+    } else {
+        print::text(b"absent");
+    }
+    true
+}
+
+fn same_parts(count: u32, words: &[u32]) -> bool {
+    let n = count as usize;
+    if n > words.len() {
+        return false;
+    }
+    if judge::same_sample(&words[0..n], &words[n..]) {
+        print::text(b"same");
+    } else {
+        print::text(b"other");
+    }
+    true
+}
+
+// A count, that many words, and the rest: whether the two records are of one sample.
+pub fn same_sample(words: &[u32]) -> bool {
+    if words.len() == 0 {
+        return false;
+    }
+    same_parts(words[0], &words[1..])
+}

@@ -1,0 +1,86 @@
+//! Inputs that both sides get: records as an analyser makes them, bottles of
+//! three runs, control charts, batches.
+
+use crate::plain::record::WORDS;
+
+/// A small generator (xorshift); the same numbers in every run.
+pub struct Random(u64);
+
+impl Random {
+    pub fn new(seed: u64) -> Random {
+        Random(seed | 1)
+    }
+
+    pub fn below(&mut self, n: u32) -> u32 {
+        self.0 ^= self.0 << 13;
+        self.0 ^= self.0 >> 7;
+        self.0 ^= self.0 << 17;
+        ((self.0 >> 33) % u64::from(n)) as u32
+    }
+
+    /// From 0 to `most` mg/L, most of them small.
+    fn milligrams(&mut self, most: f32) -> f32 {
+        let part = self.below(1000) as f32 / 1000.0;
+        part * part * most
+    }
+}
+
+/// A record: one reading in twenty is missing, one in seven below its limit.
+pub fn a_record(random: &mut Random) -> [u32; WORDS] {
+    let mut words = [0; WORDS];
+    words[0] = 1 + random.below(999_999);
+    words[1] = 1 + random.below(6);
+    words[2] = 350 + random.below(450);
+    words[3] = 30 + random.below(600);
+    words[4] = random.below(1500);
+    for reading in words[5..].chunks_exact_mut(2) {
+        match random.below(140) {
+            0..=6 => {}
+            7..=26 => reading.copy_from_slice(&[2, 0.05f32.to_bits()]),
+            _ => reading.copy_from_slice(&[1, random.milligrams(4.0).to_bits()]),
+        }
+    }
+    words
+}
+
+/// Three runs of one bottle, whose readings move a little.
+pub fn a_bottle(random: &mut Random) -> [[u32; WORDS]; 3] {
+    let first = a_record(random);
+    let mut runs = [first; 3];
+    for run in &mut runs[1..] {
+        run[3] += random.below(8);
+        let reading = 5 + 2 * random.below(8) as usize;
+        if run[reading] == 1 {
+            run[reading + 1] = random.milligrams(4.0).to_bits();
+        }
+    }
+    runs
+}
+
+/// Setup values about 1,000 µg/L and later values that sometimes leave them.
+pub fn a_chart(random: &mut Random, setup: usize, later: usize) -> (Vec<u32>, Vec<u32>) {
+    let before = (0..setup).map(|_| 950 + random.below(100)).collect();
+    let after = (0..later)
+        .map(|_| match random.below(20) {
+            0 => 800 + random.below(400),
+            _ => 950 + random.below(100),
+        })
+        .collect();
+    (before, after)
+}
+
+/// Five charts of 30 + 30 values, and so many samples.
+pub fn a_batch(random: &mut Random, samples: usize) -> Vec<u32> {
+    let mut words = vec![5];
+    for element in 1..=5 {
+        let (setup, later) = a_chart(random, 30, 30);
+        words.extend([element, 30, 30]);
+        words.extend(setup);
+        words.extend(later);
+    }
+    words.push(samples as u32);
+    for _ in 0..samples {
+        words.extend(a_record(random));
+    }
+    words
+}

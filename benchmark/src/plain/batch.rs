@@ -1,0 +1,63 @@
+//! A batch: charts, then samples.
+
+use super::record::{Record, WORDS};
+use super::{chart, checks, Refusal};
+
+const MOST_CHARTS: u32 = 10;
+const MOST_SAMPLES: u32 = 400;
+
+fn split(words: &[u32], n: usize) -> Result<(&[u32], &[u32]), Refusal> {
+    if words.len() < n {
+        return Err(8);
+    }
+    Ok(words.split_at(n))
+}
+
+fn count(words: &[u32], most: u32) -> Result<(u32, &[u32]), Refusal> {
+    let (first, rest) = split(words, 1)?;
+    if first[0] > most {
+        return Err(9);
+    }
+    Ok((first[0], rest))
+}
+
+pub fn judge_batch(words: &[u32], out: &mut [u32], floors: &[u64; 801]) -> Result<usize, Refusal> {
+    let (charts, mut rest) = count(words, MOST_CHARTS)?;
+    let mut seen = [false; 11];
+    let mut signalled = Vec::new();
+    for _ in 0..charts {
+        let (head, values) = split(rest, 3)?;
+        let (element, setup, later) = (head[0] as usize, head[1] as usize, head[2] as usize);
+        if !(1..=10).contains(&element) || seen[element] {
+            return Err(10);
+        }
+        seen[element] = true;
+        if !chart::counts_fit(setup, later) {
+            return Err(9);
+        }
+        let (values, after) = split(values, setup + later)?;
+        if chart::last_signal(&values[..setup], &values[setup..])? != 0 {
+            signalled.push(element);
+        }
+        rest = after;
+    }
+    let (samples, mut rest) = count(rest, MOST_SAMPLES)?;
+    let mut answer = Vec::with_capacity(1 + 6 * samples as usize);
+    answer.push(samples);
+    for _ in 0..samples {
+        let (words, after) = split(rest, WORDS)?;
+        let record = Record::read(words)?;
+        answer.push(record.number);
+        answer.extend(checks::verdicts(&record, floors));
+        let flagged = signalled.iter().any(|&e| record.amounts[e - 1].is_some());
+        answer.push(u32::from(flagged));
+        rest = after;
+    }
+    if !rest.is_empty() {
+        return Err(8);
+    }
+    out.get_mut(..answer.len())
+        .ok_or(13u32)?
+        .copy_from_slice(&answer);
+    Ok(answer.len())
+}

@@ -1,0 +1,167 @@
+//! What is measured: each row runs the same inputs through both sides, and
+//! adds up what they answer, so that nothing is left out and both can be
+//! compared.
+
+use crate::inputs::{a_batch, a_bottle, a_chart, a_record, Random};
+use crate::plain::{batch, chart, checks, docket::Docket, record::WORDS};
+use crate::proved::{self, DOCKET_WORDS};
+use reference::hydrogen::Ph;
+
+const RECORDS: usize = 2000;
+const BOTTLES: usize = 700;
+const CHARTS: usize = 300;
+const MOST_ANSWER: usize = 2401;
+
+pub struct Row {
+    pub key: &'static str,
+    pub name: String,
+    /// How many records, offers, later values or samples one run has.
+    pub pieces: usize,
+    pub proved: Box<dyn FnMut() -> u64>,
+    pub plain: Box<dyn FnMut() -> u64>,
+}
+
+fn floors() -> [u64; 801] {
+    std::array::from_fn(|i| Ph::new(200 + i as u32).map_or(0, Ph::floor))
+}
+
+fn sum(words: &[u32]) -> u64 {
+    words.iter().map(|&w| u64::from(w)).sum()
+}
+
+fn judging(floors: [u64; 801]) -> Row {
+    let mut random = Random::new(1);
+    let records: Vec<[u32; WORDS]> = (0..RECORDS).map(|_| a_record(&mut random)).collect();
+    let same = records.clone();
+    Row {
+        key: "judge",
+        name: "a record judged".into(),
+        pieces: RECORDS,
+        proved: Box::new(move || {
+            let mut verdicts = [0; 4];
+            let judged = records.iter().map(|r| {
+                proved::judge(r, &mut verdicts);
+                sum(&verdicts)
+            });
+            judged.sum()
+        }),
+        plain: Box::new(move || {
+            let judged = same
+                .iter()
+                .map(|r| checks::judge(r, &floors).map_or(0, |v| sum(&v)));
+            judged.sum()
+        }),
+    }
+}
+
+fn following(floors: [u64; 801]) -> Row {
+    let mut random = Random::new(2);
+    let bottles: Vec<_> = (0..BOTTLES).map(|_| a_bottle(&mut random)).collect();
+    let same = bottles.clone();
+    Row {
+        key: "follow",
+        name: "a record offered to a docket".into(),
+        pieces: 3 * BOTTLES,
+        proved: Box::new(move || {
+            let mut docket = [0; DOCKET_WORDS];
+            let mut all = 0;
+            for runs in &bottles {
+                proved::fresh(&mut docket);
+                for words in runs {
+                    proved::offer(&mut docket, words);
+                }
+                all += u64::from(docket[0] + docket[1]);
+            }
+            all
+        }),
+        plain: Box::new(move || {
+            let mut all = 0;
+            for runs in &same {
+                let mut docket = Docket::fresh();
+                for words in runs {
+                    let _ = docket.offer(words, &floors);
+                }
+                all += docket.state as u64 + u64::from(docket.count);
+            }
+            all
+        }),
+    }
+}
+
+fn charting(key: &'static str, setup: usize, later: usize) -> Row {
+    let mut random = Random::new(3);
+    let charts: Vec<_> = (0..CHARTS)
+        .map(|_| a_chart(&mut random, setup, later))
+        .collect();
+    let same = charts.clone();
+    Row {
+        key,
+        name: format!("a later value of a chart {setup} + {later}"),
+        pieces: CHARTS * later,
+        proved: Box::new(move || {
+            let mut out = [0; 64];
+            let read = charts.iter().map(|(before, after)| {
+                proved::signals(before, after, &mut out);
+                sum(&out[..after.len()])
+            });
+            read.sum()
+        }),
+        plain: Box::new(move || {
+            let mut out = [0; 64];
+            let read = same.iter().map(|(before, after)| {
+                let n = chart::signals(before, after, &mut out).unwrap_or(0);
+                sum(&out[..n])
+            });
+            read.sum()
+        }),
+    }
+}
+
+fn batching(key: &'static str, samples: usize, floors: [u64; 801]) -> Row {
+    let mut random = Random::new(4);
+    let words = a_batch(&mut random, samples);
+    let same = words.clone();
+    let times = 800 / samples;
+    Row {
+        key,
+        name: format!("a sample of a batch of {samples}"),
+        pieces: samples * times,
+        proved: Box::new(move || {
+            let mut out = [0; MOST_ANSWER];
+            for _ in 0..times {
+                proved::judge_batch(std::hint::black_box(&words), &mut out);
+            }
+            sum(&out)
+        }),
+        plain: Box::new(move || {
+            let mut out = [0; MOST_ANSWER];
+            for _ in 0..times {
+                let _ = batch::judge_batch(std::hint::black_box(&same), &mut out, &floors);
+            }
+            sum(&out)
+        }),
+    }
+}
+
+/// Every row; both sides of each have given the same sum once.
+pub fn all() -> Vec<Row> {
+    let floors = floors();
+    let mut rows = vec![
+        judging(floors),
+        following(floors),
+        charting("chart30", 30, 64),
+        charting("chart64", 64, 64),
+        batching("batch4", 4, floors),
+        batching("batch40", 40, floors),
+        batching("batch400", 400, floors),
+    ];
+    for row in &mut rows {
+        assert_eq!(
+            (row.proved)(),
+            (row.plain)(),
+            "the two sides of {} differ",
+            row.key
+        );
+    }
+    rows
+}

@@ -1,0 +1,64 @@
+-- The reading's words are lent, or its refusal stands.
+use mathlib.Core.Path.{_≡_, sym, ap, _∙_}
+use Rattle.refusal.specs.Outcome.Outcome.{given, refused}
+use Rattle.refusal.specs.Numbers.{numberOf}
+use Rattle.reading.specs.Answers.{wordsOutcome}
+use Rattle.analyser.specs.Analyses.{pairOf, readingWords}
+use Rattle.analyser.proofs.CallLaws.{same-fitting, refusing}
+use borrow.Author.Needs.{needs}
+use Rattle.analyser.proofs.reading_words.lend_reading.Statement.{statement}
+use Rattle.analyser.proofs.reading_words.lend_reading.Tie as tie
+
+words-requires : tie.Need-words-requires
+words-requires c κs = search needs
+
+enum-known-words : tie.Need-enum-known-words
+enum-known-words c = search needs
+
+slice-aggregate-lend : tie.Need-slice-aggregate-lend
+slice-aggregate-lend c = search needs
+
+lend-requires : tie.Need-lend-requires
+lend-requires c κs = search needs
+
+enum-known-why : tie.Need-enum-known-why
+enum-known-why c = search needs
+
+number-requires : tie.Need-number-requires
+number-requires c κs = search needs
+
+same-length : tie.Need-same-length
+same-length c = search needs
+
+returns : tie.Need-returns
+unfolding readingWords
+returns c =
+    let called = c .before .before in
+    let bound = called .before .before .before .before in
+    let made = bound .before .before in
+    let a = made .before .before .args in
+    let e : readingWords (a .reading) ≡ given (pairOf (bound .words2 .given .0 .0)) = simp (sym (made .words .ensures .0) ∙ ap wordsOutcome (bound .words2 .given .1)) in
+    same-fitting (a .lent .now) e (called .lend .ensures)
+
+returns-2 : tie.Need-returns-2
+unfolding readingWords
+returns-2 c =
+    let bound = c .before .before in
+    let made = bound .before .before in
+    let a = made .before .before .args in
+    let e : readingWords (a .reading) ≡ refused (numberOf (bound .why .given .0 .0)) = simp (sym (made .words .ensures .0) ∙ ap wordsOutcome (bound .why .given .1)) in
+    refusing (a .lent .now) e (c .number .ensures)
+
+pub lend-reading-spec : {M : Type 1} → statement M
+lend-reading-spec =
+    tie.close
+    (tie.spec
+    words-requires
+    enum-known-words
+    slice-aggregate-lend
+    lend-requires
+    enum-known-why
+    number-requires
+    same-length
+    returns
+    returns-2)

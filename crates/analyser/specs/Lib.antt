@@ -1,0 +1,5 @@
+pub mod Codes
+pub mod Analyses
+pub mod DocketWords
+pub mod LentDockets
+pub mod Steps

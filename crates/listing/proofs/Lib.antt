@@ -1,0 +1,8 @@
+-- The laws that the functions' proofs cite.
+mod WordLaws
+mod DecimalLaws
+mod PlaceLaws
+mod LineLaws
+mod RoomLaws
+mod AnswerLaws
+mod TextLaws

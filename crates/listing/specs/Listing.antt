@@ -1,0 +1,66 @@
+-- Document 01, 'A batch': the text that the listing program prints of a batch.
+use mathlib.Core.Bool.{cond}
+use mathlib.Core.List.{List, [], _∷_, _++_}
+use Prim.Native.Nat.{ℕ, zero, suc, _≤_}
+use lib.Dec.{eqb}
+use lib.ListN.{length, getD, take, drop}
+use Rattle.refusal.specs.declared.Refusal.the-variants as refusal
+use Rattle.refusal.specs.Numbers.{numberOf}
+use Rattle.refusal.specs.Outcome.{Outcome, demand}
+use Rattle.refusal.specs.Outcome.Outcome.{given, refused}
+use Rattle.batch.specs.Rows.{rowWords, batchAnswer}
+use Rattle.listing.specs.Words.{wordsOf, isInput}
+use Rattle.listing.specs.Decimal.{decimal}
+
+-- ASCII codes
+abbrev pub space : ℕ
+space = 32
+
+abbrev pub newline : ℕ
+newline = 10
+
+-- `refused ` in ASCII
+abbrev pub refusedWord : List ℕ
+refusedWord = 114 ∷ 101 ∷ 102 ∷ 117 ∷ 115 ∷ 101 ∷ 100 ∷ space ∷ []
+
+-- 'fields parted by a space', the line ended by a newline: the byte after a field, by how many fields come after it
+unfoldable pub ending : ℕ → ℕ
+ending after = cond (eqb after 0) newline space
+
+-- a line of fields, each a number in base ten (no fields, no line)
+unfoldable pub line : List ℕ → List ℕ
+line [] = []
+line (field ∷ rest) = decimal field ++ (ending (length rest) ∷ line rest)
+
+-- 'a row a line': the fields are the row's words
+unfoldable pub rowLine : List ℕ → List ℕ
+rowLine row = line row
+
+-- so many rows, one after the other
+unfoldable pub rowLines : ℕ → List ℕ → List ℕ
+rowLines zero words = []
+rowLines (suc n) words = rowLine (take rowWords words) ++ rowLines n (drop rowWords words)
+
+-- 'prints these, count on the first line, a row a line': the text of a batch's answer
+unfoldable pub listingText : List ℕ → List ℕ
+listingText words = line (getD words 0 0 ∷ []) ++ rowLines (getD words 0 0) (drop 1 words)
+
+-- 'or `refused N`', a line too
+unfoldable pub refusedText : ℕ → List ℕ
+refusedText n = refusedWord ++ line (n ∷ [])
+
+unfoldable pub textOf : Outcome (List ℕ) → List ℕ
+textOf (given words) = listingText words
+textOf (refused n) = refusedText n
+
+-- what the listing program prints of the bytes that it reads
+unfoldable pub listText : List ℕ → List ℕ
+listText bytes = textOf (demand (isInput bytes) (numberOf refusal.BatchLength) (batchAnswer (wordsOf bytes)))
+
+-- the longest text: a first line of at most 4 bytes (400), and 400 rows of at most 17 (a number of six digits, five of one, six bytes after them)
+abbrev pub mostText : ℕ
+mostText = 6_804
+
+-- no text is longer
+abbrev pub TextFits : Type 0
+TextFits = (bytes : List ℕ) → length (listText bytes) ≤ mostText

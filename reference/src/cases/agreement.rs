@@ -1,0 +1,161 @@
+//! Call 8: whether two records agree.
+
+use super::bottle::{plausible, Bottle};
+use super::floats::limit_of;
+use super::generator::Generator;
+use super::Cases;
+use crate::ions::IONS;
+use crate::record::READINGS;
+
+/// Asks both ways round.
+fn compare(cases: &mut Cases, first: &Bottle, second: &Bottle) {
+    for (first, second) in [(first, second), (second, first)] {
+        compare_slices(cases, first.words(), second.words());
+    }
+}
+
+fn compare_slices(cases: &mut Cases, first: &[u32], second: &[u32]) {
+    cases.add(8, &[&[first.len() as u32], first, second].concat());
+}
+
+pub fn all(cases: &mut Cases) {
+    whole_words(cases);
+    amounts(cases);
+    missing_and_below(cases);
+    refused(cases);
+    scattered(cases);
+}
+
+/// Numbers a tenth apart and just beyond it, and the smallest ones.
+const TENTHS: [(u32, u32); 12] = [
+    (100, 90),
+    (100, 89),
+    (99, 90),
+    (99, 89),
+    (10, 9),
+    (9, 8),
+    (11, 10),
+    (1, 1),
+    (2, 1),
+    (100_000, 90_000),
+    (100_000, 89_999),
+    (55_555, 50_000),
+];
+
+/// pH, conductivity and alkalinity; number and kind aren't compared.
+fn whole_words(cases: &mut Cases) {
+    let bottle = Bottle::doubtful();
+    compare(cases, &bottle, &bottle);
+    compare(cases, &bottle, &bottle.number(42));
+    compare(cases, &bottle, &bottle.kind(5));
+    for (first, second) in [
+        (500, 510),
+        (500, 511),
+        (200, 210),
+        (989, 1_000),
+        (990, 1_000),
+    ] {
+        compare(cases, &bottle.ph(first), &bottle.ph(second));
+    }
+    for (first, second) in TENTHS {
+        compare(
+            cases,
+            &bottle.conductivity(first),
+            &bottle.conductivity(second),
+        );
+        compare(cases, &bottle.alkalinity(first), &bottle.alkalinity(second));
+    }
+    for (first, second) in [(0, 0), (0, 1), (200_000, 180_000), (200_000, 179_999)] {
+        compare(cases, &bottle.alkalinity(first), &bottle.alkalinity(second));
+    }
+}
+
+/// The amount of every reading; nitrogen and carbon aren't compared.
+fn amounts(cases: &mut Cases) {
+    let bottle = Bottle::doubtful();
+    for place in 0..READINGS {
+        for (first, second) in [(100, 90), (100, 89), (0, 0), (0, 1), (10, 9), (9, 8)] {
+            compare(
+                cases,
+                &bottle.amount(place, first),
+                &bottle.amount(place, second),
+            );
+        }
+    }
+    for (first, second) in TENTHS {
+        compare(cases, &bottle.amount(7, first), &bottle.amount(7, second));
+    }
+    // Other floats of the same amount agree as that amount does.
+    compare(cases, &bottle.reading(1, 1, 0), &bottle.reading(1, 1, 1));
+}
+
+fn missing_and_below(cases: &mut Cases) {
+    let bottle = Bottle::doubtful();
+    for place in 0..READINGS {
+        let missing = bottle.missing(place);
+        compare(cases, &missing, &bottle);
+        compare(cases, &missing, &bottle.amount(place, 0));
+        compare(cases, &missing, &missing);
+        compare(cases, &missing, &missing.missing((place + 1) % IONS));
+        let measured = bottle.amount(place, 1_000);
+        for amount in [1_000, 900, 899, 1_111, 1_112] {
+            compare(cases, &measured, &bottle.below(place, limit_of(amount)));
+        }
+        compare(
+            cases,
+            &bottle.below(place, 0x3A80_0000),
+            &bottle.amount(place, 0),
+        );
+    }
+}
+
+/// "The first slice is tested 1 to 7, then the second."
+fn refused(cases: &mut Cases) {
+    let bottle = Bottle::doubtful();
+    let faulty = [
+        bottle.number(0),
+        bottle.kind(7),
+        bottle.ph(1_001),
+        bottle.conductivity(0),
+        bottle.alkalinity(200_001),
+        bottle.reading(9, 3, 0),
+    ];
+    for first in &faulty {
+        compare(cases, first, &bottle);
+        for second in &faulty {
+            compare_slices(cases, first.words(), second.words());
+        }
+    }
+    let words = bottle.words();
+    compare_slices(cases, &words[..24], words);
+    compare_slices(cases, words, &words[..24]);
+    compare_slices(cases, faulty[5].words(), &words[..24]);
+    compare_slices(cases, &[], &[]);
+    compare_slices(cases, &[words, &[0]].concat(), words);
+    compare_slices(cases, words, &[words, &[0]].concat());
+}
+
+/// The same bottle analysed twice, each reading a little off.
+pub fn repeated(generator: &mut Generator, bottle: &Bottle, percent: u32) -> Bottle {
+    let words = bottle.words();
+    let mut other = bottle.ph((words[2] + generator.below(14)).clamp(200, 1_000));
+    other = other.conductivity(generator.near(words[3], percent).clamp(1, 100_000));
+    other = other.alkalinity(generator.near(words[4], percent).min(200_000));
+    let place = generator.below(READINGS as u32) as usize;
+    let (mark, bits) = (words[5 + 2 * place], words[6 + 2 * place]);
+    if mark == 1 && bits > 0x0080_0000 {
+        // A step of 2^20 in the bits is an eighth of the float's power of 2.
+        other = other.reading(place, 1, bits - generator.below(1 << 21));
+    }
+    other
+}
+
+fn scattered(cases: &mut Cases) {
+    let mut generator = Generator::new(501);
+    for _ in 0..250 {
+        let first = plausible(&mut generator);
+        let percent = generator.pick(&[4, 9, 11, 14]);
+        let second = repeated(&mut generator, &first, percent);
+        compare_slices(cases, first.words(), second.words());
+    }
+}

@@ -1,0 +1,97 @@
+//! The stored inputs: what the three test programs are run with.
+
+pub mod agreement;
+pub mod batches;
+pub mod bottle;
+pub mod charts;
+pub mod floats;
+pub mod generator;
+pub mod greatest_batch;
+pub mod hydrogen;
+pub mod limits;
+pub mod listings;
+pub mod offers;
+pub mod one_bottle;
+pub mod questions;
+pub mod readings;
+pub mod records;
+pub mod solver;
+pub mod undecided;
+
+use bottle::Bottle;
+
+/// Cases for `replay`, one after another: the number of a call, a count, and
+/// that many words.
+#[derive(Default)]
+pub struct Cases {
+    words: Vec<u32>,
+}
+
+impl Cases {
+    pub fn add(&mut self, call: u32, words: &[u32]) {
+        self.words.extend([call, words.len() as u32]);
+        self.words.extend(words);
+    }
+
+    /// Call 7: a record judged.
+    pub fn judge(&mut self, bottle: &Bottle) {
+        self.add(7, bottle.words());
+    }
+}
+
+/// The input of `replay`. Its very last case is malformed: the input ends in
+/// the middle of it.
+pub fn replay_input() -> Vec<u8> {
+    let mut cases = Cases::default();
+    let subjects: [fn(&mut Cases); 12] = [
+        hydrogen::all,
+        readings::all,
+        questions::all,
+        records::all,
+        limits::all,
+        undecided::all,
+        agreement::all,
+        offers::all,
+        charts::all,
+        batches::all,
+        listings::all,
+        |cases| cases.words.extend([7, 25, 7, 2, 500, 150]),
+    ];
+    for subject in subjects {
+        subject(&mut cases);
+    }
+    crate::words::to_bytes(&cases.words)
+}
+
+#[cfg(test)]
+mod tests {
+    use crate::replay;
+
+    #[test]
+    fn only_the_last_case_is_malformed() {
+        let input = super::replay_input();
+        assert!(input.len() < 1_500_000, "{} bytes", input.len());
+        let text = replay::text(&input);
+        let malformed = text.lines().filter(|line| *line == "malformed").count();
+        assert_eq!(malformed, 1);
+        assert_eq!(text.lines().last(), Some("malformed"));
+    }
+
+    #[test]
+    fn every_verdict_of_every_check_occurs() {
+        let text = replay::text(&super::replay_input());
+        let judged: Vec<&str> = text
+            .lines()
+            .filter(|line| line.starts_with("judged"))
+            .collect();
+        for (check, verdicts) in [(1, "01234"), (2, "1234"), (3, "0124"), (4, "0124")] {
+            for verdict in verdicts.chars() {
+                let occurs = judged.iter().any(|line| {
+                    let field = line.split(' ').nth(check);
+                    field == Some(verdict.to_string().as_str())
+                });
+                assert!(occurs, "check {check} verdict {verdict}");
+            }
+        }
+    }
+}

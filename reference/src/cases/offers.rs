@@ -1,0 +1,132 @@
+//! Calls 9 and 16: lists of offers to a fresh docket.
+
+use super::agreement::repeated;
+use super::bottle::{plausible, Bottle};
+use super::generator::Generator;
+use super::undecided::undecided_conductivity;
+use super::Cases;
+use crate::ions::{CHLORIDE, SODIUM, TOTAL_NITROGEN};
+
+pub fn all(cases: &mut Cases) {
+    for course in COURSES {
+        let bottles: Vec<Bottle> = course.chars().map(bottle_of).collect();
+        add(cases, &bottles);
+    }
+    odd_slices(cases);
+    let mut generator = Generator::new(601);
+    for _ in 0..400 {
+        let list = scattered_list(&mut generator);
+        add_slices(cases, &list);
+    }
+}
+
+/// A list of records: each answer, and what is held in the end.
+fn add(cases: &mut Cases, bottles: &[Bottle]) {
+    let slices: Vec<&[u32]> = bottles.iter().map(Bottle::words).collect();
+    add_slices(cases, &slices);
+    cases.add(16, &slices.concat());
+}
+
+/// A list of slices of any length, each after its count.
+fn add_slices(cases: &mut Cases, slices: &[impl AsRef<[u32]>]) {
+    let mut words = Vec::new();
+    for slice in slices {
+        words.push(slice.as_ref().len() as u32);
+        words.extend(slice.as_ref());
+    }
+    cases.add(9, &words);
+}
+
+/// Courses of a docket, a letter for each offer as in `bottle_of`.
+const COURSES: [&str; 40] = [
+    // Nothing, one, two or three that don't agree, and one too many.
+    "", "a", "ab", "abc", "abcc",
+    // Agreement with the one before; the third isn't compared with the first.
+    "aa", "aaa", "abb", "abba", "aba", "aeb", "aeea",
+    // Consistent at the first, second or third offer.
+    "g", "gg", "ga", "ag", "aga", "abg", "abga",
+    // Refused offers in between and after closing.
+    "xaxbxc", "aokbob", "aoyaoyx", "xxxxaa", "abcoxk", "aoooca", "oaokk", "rarbsb", "gxyokr",
+    // Missing, outside and undecided keep a record from being consistent, not
+    // applicable doesn't.
+    "mmg", "wmw", "nw", "nn", "mwm", "uvuu", "uu", "uvw", "vuu", "auu", "ur", "abuu",
+];
+
+/// The bottles of the courses: all of the same number and kind but o, k, y, u
+/// and v.
+fn bottle_of(letter: char) -> Bottle {
+    let doubtful = Bottle::doubtful();
+    let good = Bottle::printed().number(41).kind(3);
+    match letter {
+        // Doubtful ones: a, b and c don't agree; e agrees with a and with b.
+        'b' => doubtful.ph(520),
+        'c' => doubtful.ph(540),
+        'e' => doubtful.ph(510),
+        // Consistent; a reading missing; conductivity outside; no total nitrogen.
+        'g' => good,
+        'm' => good.missing(SODIUM),
+        'w' => good.conductivity(300),
+        'n' => good.missing(TOTAL_NITROGEN),
+        // Another number, another kind, and refused records.
+        'o' => doubtful.number(42),
+        'k' => doubtful.kind(4),
+        'x' => doubtful.ph(199),
+        'y' => doubtful.number(42).alkalinity(200_001),
+        'r' => doubtful.reading(0, 3, 0),
+        's' => doubtful.ph(520).reading(9, 0, 1),
+        // Undecided, and the same bottle with other chloride.
+        'u' => undecided(),
+        'v' => undecided().amount(CHLORIDE, 9),
+        _ => doubtful,
+    }
+}
+
+fn undecided() -> Bottle {
+    undecided_conductivity().unwrap_or_else(Bottle::doubtful)
+}
+
+/// Offers that aren't 25 words, and a list that ends in the middle of one.
+fn odd_slices(cases: &mut Cases) {
+    let doubtful = Bottle::doubtful();
+    let a = doubtful.words();
+    add_slices(cases, &[&[], a, &a[..24], &[1], a, &[]]);
+    add_slices(cases, &[&[a, &[0]].concat(), a]);
+    cases.add(9, &[&[25], a, &[25], &a[..7]].concat());
+    cases.add(9, &[25]);
+    cases.add(9, &[u32::MAX, 1, 2]);
+    cases.add(9, &[0, 0, 0]);
+    for length in [1, 24, 26, 49, 51, 74, 76] {
+        let endless: Vec<u32> = a.iter().copied().cycle().take(length).collect();
+        cases.add(16, &endless);
+    }
+}
+
+/// A list of offers of one bottle, mostly, now and then faulty or of another.
+pub fn scattered_list(generator: &mut Generator) -> Vec<Vec<u32>> {
+    let mut bottle = plausible(generator);
+    let length = generator.between(1, 6);
+    (0..length)
+        .map(|_| {
+            let percent = generator.pick(&[3, 9, 14]);
+            let offer = repeated(generator, &bottle, percent);
+            let words = offer.words().to_vec();
+            bottle = offer;
+            disturbed(generator, words)
+        })
+        .collect()
+}
+
+fn disturbed(generator: &mut Generator, mut words: Vec<u32>) -> Vec<u32> {
+    match generator.below(16) {
+        0 => words[0] = words[0] % 999_999 + 1,
+        1 => words[1] = words[1] % 6 + 1,
+        2 => {
+            let place = generator.below(5) as usize;
+            words[place] = 300_000_000;
+        }
+        3 => words.truncate(generator.below(25) as usize),
+        4 => words[7] = 3,
+        _ => {}
+    }
+    words
+}

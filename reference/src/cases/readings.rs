@@ -1,0 +1,125 @@
+//! Calls 2 to 5: readings, analyses and amounts.
+
+use super::floats::{least_float_of, ties, GREATEST, LEAST_LIMIT};
+use super::generator::Generator;
+use super::Cases;
+
+const SIGN: u32 = 0x8000_0000;
+
+/// Bit patterns at which something ends.
+const EDGES: [u32; 34] = [
+    0,
+    1,
+    2,
+    0x007F_FFFF, // the greatest subnormal
+    0x0080_0000, // the smallest normal
+    0x0080_0001,
+    0x3A00_0000, // 2^−11
+    LEAST_LIMIT - 1,
+    LEAST_LIMIT,
+    LEAST_LIMIT + 1,
+    0x3D7F_FFFF,
+    0x3D80_0000, // 1/16
+    0x3D80_0001,
+    0x3F80_0000, // 1
+    0x4120_0000, // 10
+    GREATEST - 1,
+    GREATEST,
+    GREATEST + 1,
+    0x4380_0000, // 256
+    0x7F7F_FFFF, // the greatest finite
+    0x7F80_0000, // infinity
+    0x7F80_0001, // a signalling NaN
+    0x7FC0_0000, // a quiet NaN
+    0x7FFF_FFFF,
+    SIGN, // minus zero
+    SIGN | 1,
+    SIGN | 0x0080_0000,
+    SIGN | LEAST_LIMIT,
+    SIGN | 0x3F80_0000,
+    SIGN | GREATEST,
+    SIGN | 0x7F80_0000,
+    SIGN | 0x7F80_0001,
+    SIGN | 0x7FC0_0000,
+    u32::MAX,
+];
+
+pub fn all(cases: &mut Cases) {
+    marks(cases);
+    analyses(cases);
+    analyses_about_their_limits(cases);
+    amounts_at_ties(cases);
+    amounts_at_steps(cases);
+    scattered(cases);
+}
+
+fn marks(cases: &mut Cases) {
+    for call in [2, 4, 5] {
+        for mark in [0, 1, 2, 3, 4, 256, u32::MAX] {
+            for bits in EDGES {
+                cases.add(call, &[mark, bits]);
+            }
+        }
+    }
+}
+
+fn analyses(cases: &mut Cases) {
+    for value in EDGES {
+        for limit in EDGES {
+            cases.add(3, &[value, limit]);
+        }
+    }
+}
+
+/// Values at their limit and beside it.
+fn analyses_about_their_limits(cases: &mut Cases) {
+    let mut generator = Generator::new(101);
+    for _ in 0..200 {
+        let limit = generator.between(LEAST_LIMIT, GREATEST);
+        for value in [limit - 1, limit, limit + 1, generator.between(0, GREATEST)] {
+            cases.add(3, &[value, limit]);
+        }
+    }
+}
+
+/// Floats whose thousandfold is a whole number and a half, and their
+/// neighbours; limits whose half is such a float.
+fn amounts_at_ties(cases: &mut Cases) {
+    for tie in ties().into_iter().step_by(2) {
+        for bits in [tie - 1, tie, tie + 1] {
+            cases.add(4, &[1, bits]);
+        }
+        let limit = tie + 0x0080_0000;
+        if limit < GREATEST {
+            for bits in [limit - 1, limit, limit + 1] {
+                cases.add(4, &[2, bits]);
+            }
+        }
+    }
+}
+
+/// The last float of an amount and the first of the next one.
+fn amounts_at_steps(cases: &mut Cases) {
+    let mut generator = Generator::new(102);
+    for _ in 0..600 {
+        let most = generator.pick(&[10, 1_000, 10_000, 200_000]);
+        let first = least_float_of(generator.between(1, most));
+        for bits in [first - 1, first] {
+            cases.add(4, &[1, bits]);
+        }
+        if first < 0x42C8_0000 {
+            for limit in [first + 0x007F_FFFF, first + 0x0080_0000] {
+                cases.add(4, &[2, limit]);
+            }
+        }
+    }
+}
+
+fn scattered(cases: &mut Cases) {
+    let mut generator = Generator::new(103);
+    for _ in 0..800 {
+        cases.add(4, &[1, generator.between(0, GREATEST)]);
+        cases.add(4, &[1, generator.between(LEAST_LIMIT, GREATEST)]);
+        cases.add(4, &[2, generator.between(LEAST_LIMIT, GREATEST)]);
+    }
+}

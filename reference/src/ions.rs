@@ -1,0 +1,63 @@
+//! "Charge and conductance": the table of document 01.
+
+/// The places of the ten readings, "in the order NH4-N, Ca, Mg, Na, K, SO4-S,
+/// NO3-N, Cl, total nitrogen (TN), dissolved organic carbon (DOC)".
+pub const AMMONIUM: usize = 0;
+pub const CALCIUM: usize = 1;
+pub const MAGNESIUM: usize = 2;
+pub const SODIUM: usize = 3;
+pub const POTASSIUM: usize = 4;
+pub const SULPHATE: usize = 5;
+pub const NITRATE: usize = 6;
+pub const CHLORIDE: usize = 7;
+pub const TOTAL_NITROGEN: usize = 8;
+pub const ORGANIC_CARBON: usize = 9;
+
+/// The eight ions are the first eight readings.
+pub const IONS: usize = 8;
+/// "Cat is H plus the next five rows": the first five ions.
+pub const CATIONS: std::ops::Range<usize> = AMMONIUM..SULPHATE;
+/// "An the last four": alkalinity and the other three ions.
+pub const ANIONS: std::ops::Range<usize> = SULPHATE..IONS;
+
+/// A row of the table.
+pub struct Row {
+    /// f: "An ion of amount a has a × f × 10^4 u of charge."
+    pub factor: i128,
+    /// c: "Each u of an ion adds c units of 10^−13 µS/cm."
+    pub conductance: i128,
+}
+
+const fn row(factor: i128, conductance: i128) -> Row {
+    Row {
+        factor,
+        conductance,
+    }
+}
+
+/// The rows of the eight ions in reading order.
+pub const TABLE: [Row; IONS] = [
+    row(7139, 735), // NH4-N
+    row(4990, 595), // Ca
+    row(8229, 531), // Mg
+    row(4350, 501), // Na
+    row(2558, 735), // K
+    row(6237, 800), // SO4-S
+    row(7139, 714), // NO3-N
+    row(2821, 764), // Cl
+];
+
+/// The c of hydrogen.
+pub const HYDROGEN_CONDUCTANCE: i128 = 3500;
+/// The c of alkalinity.
+pub const ALKALINITY_CONDUCTANCE: i128 = 445;
+
+/// The charge of an ion in u: a × f × 10^4.
+pub fn charge(ion: usize, amount: u32) -> i128 {
+    i128::from(amount) * TABLE[ion].factor * 10_000
+}
+
+/// "Alkalinity, t tenths of a µeq/L, has t × 10^8 u."
+pub fn alkalinity_charge(tenths: u32) -> i128 {
+    i128::from(tenths) * 100_000_000
+}

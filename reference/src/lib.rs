@@ -1,0 +1,24 @@
+//! The water analysis judge a second time, written from document 01 and the
+//! settled readings of its open points alone.
+//!
+//! The modules follow the sections of document 01. Every algorithm is the most
+//! literal one: whole numbers and exact fractions, nothing tabulated beyond
+//! the tables that document 01 prints itself.
+
+pub mod batch;
+pub mod big;
+pub mod charts;
+pub mod checks;
+pub mod docket;
+pub mod hydrogen;
+pub mod ions;
+pub mod listing;
+pub mod readings;
+pub mod record;
+pub mod refusals;
+
+pub mod cases;
+pub mod follow;
+pub mod replay;
+pub mod store;
+pub mod words;

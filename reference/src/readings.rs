@@ -1,0 +1,260 @@
+//! "A reading": missing, measured with its float, or below with its
+//! quantification limit.
+
+use crate::refusals::{require, Refusal, READING};
+use std::cmp::Ordering;
+
+/// The exact value of a float that is finite and has no sign bit:
+/// mantissa × 2^exponent, the mantissa below 2^24.
+#[derive(Clone, Copy, Debug, PartialEq, Eq)]
+struct Exact {
+    mantissa: u128,
+    exponent: i32,
+}
+
+/// "from 2^−10 (0x3A800000)"
+const LEAST_LIMIT: Exact = Exact {
+    mantissa: 1,
+    exponent: -10,
+};
+
+/// "to 200"
+const GREATEST: Exact = Exact {
+    mantissa: 200,
+    exponent: 0,
+};
+
+impl Exact {
+    /// "A set sign bit (minus zero too), an infinity or a NaN is refused."
+    fn from_bits(bits: u32) -> Result<Exact, Refusal> {
+        let sign = bits >> 31;
+        let field = (bits >> 23) & 0xFF;
+        let fraction = u128::from(bits & 0x7F_FFFF);
+        require(sign == 0 && field != 0xFF, READING)?;
+        Ok(match field {
+            0 => Exact {
+                mantissa: fraction,
+                exponent: -149,
+            },
+            _ => Exact {
+                mantissa: (1 << 23) + fraction,
+                exponent: field as i32 - 150,
+            },
+        })
+    }
+
+    /// Compares two exact values by writing both over the smaller power of 2.
+    fn compare(self, other: Exact) -> Ordering {
+        if self.exponent < other.exponent {
+            return other.compare(self).reverse();
+        }
+        // A mantissa is below 2^24: moved by 100 places it still fits into 128
+        // bits, and unless it is 0 it is then above every mantissa already.
+        let places = (self.exponent - other.exponent).min(100);
+        (self.mantissa << places).cmp(&other.mantissa)
+    }
+
+    /// "A below reading counts as half its limit."
+    fn half(self) -> Exact {
+        Exact {
+            mantissa: self.mantissa,
+            exponent: self.exponent - 1,
+        }
+    }
+
+    /// "The amount is 1,000 times the exact value of the float, rounded to a
+    /// whole number of µg/L, a tie going up": the whole part of 1,000 times
+    /// the value plus a half.
+    fn amount(self) -> u32 {
+        // Up to 200 a float's exponent is −16 or less. 2,000 times a mantissa
+        // is below 2^35, so from 2^36 on the denominator makes the amount 0,
+        // and one of 2^100 stands for all the greater ones.
+        let places = (-self.exponent).clamp(0, 100);
+        let denominator = 1u128 << places;
+        let twice = 2 * 1_000 * self.mantissa + denominator;
+        (twice / (2 * denominator)) as u32
+    }
+}
+
+/// A float together with its bits.
+#[derive(Clone, Copy, Debug, PartialEq, Eq)]
+pub struct Float {
+    bits: u32,
+    value: Exact,
+}
+
+impl Float {
+    fn new(bits: u32) -> Result<Float, Refusal> {
+        Exact::from_bits(bits).map(|value| Float { bits, value })
+    }
+
+    pub fn bits(self) -> u32 {
+        self.bits
+    }
+
+    fn is_less_than(self, other: Float) -> bool {
+        self.value.compare(other.value) == Ordering::Less
+    }
+}
+
+/// "It is one of three."
+#[derive(Clone, Copy, Debug, PartialEq, Eq)]
+pub enum Reading {
+    Missing,
+    Measured(Float),
+    Below(Float),
+}
+
+impl Reading {
+    /// "Mark 1 is measured, from 0 to 200."
+    pub fn measured(bits: u32) -> Result<Reading, Refusal> {
+        let float = Float::new(bits)?;
+        require(float.value.compare(GREATEST).is_le(), READING)?;
+        Ok(Reading::Measured(float))
+    }
+
+    /// "Mark 2 is below, and the limit is from 2^−10 (0x3A800000) to 200."
+    pub fn below(bits: u32) -> Result<Reading, Refusal> {
+        let float = Float::new(bits)?;
+        require(float.value.compare(LEAST_LIMIT).is_ge(), READING)?;
+        require(float.value.compare(GREATEST).is_le(), READING)?;
+        Ok(Reading::Below(float))
+    }
+
+    /// The reading that a mark and the bits of a float are. "Mark 0 is
+    /// missing, and its second word is 0."
+    pub fn from_words(mark: u32, bits: u32) -> Result<Reading, Refusal> {
+        match (mark, bits) {
+            (0, 0) => Ok(Reading::Missing),
+            (1, _) => Reading::measured(bits),
+            (2, _) => Reading::below(bits),
+            _ => Err(READING),
+        }
+    }
+
+    /// "The analyser itself holds a float value and a float limit for each
+    /// reading: a value under its limit becomes below with that limit, any
+    /// other becomes measured; a value or limit outside its range above gives
+    /// 7." Both are tested always.
+    pub fn from_analyser(value_bits: u32, limit_bits: u32) -> Result<Reading, Refusal> {
+        let measured = Reading::measured(value_bits)?;
+        let below = Reading::below(limit_bits)?;
+        if Float::new(value_bits)?.is_less_than(Float::new(limit_bits)?) {
+            Ok(below)
+        } else {
+            Ok(measured)
+        }
+    }
+
+    pub fn is_missing(self) -> bool {
+        self == Reading::Missing
+    }
+
+    /// The amount in whole µg/L, or nothing where the reading is missing.
+    pub fn amount(self) -> Option<u32> {
+        match self {
+            Reading::Missing => None,
+            Reading::Measured(float) => Some(float.value.amount()),
+            Reading::Below(limit) => Some(limit.value.half().amount()),
+        }
+    }
+
+    /// The mark and the bits that a record has for this reading.
+    pub fn words(self) -> (u32, u32) {
+        match self {
+            Reading::Missing => (0, 0),
+            Reading::Measured(float) => (1, float.bits),
+            Reading::Below(limit) => (2, limit.bits),
+        }
+    }
+}
+
+#[cfg(test)]
+mod tests {
+    use super::*;
+
+    fn measured_amount(bits: u32) -> Result<Option<u32>, Refusal> {
+        Reading::measured(bits).map(Reading::amount)
+    }
+
+    fn below_amount(bits: u32) -> Result<Option<u32>, Refusal> {
+        Reading::below(bits).map(Reading::amount)
+    }
+
+    #[test]
+    fn proved_case_4_is_a_tie_that_goes_up() {
+        assert_eq!(measured_amount(0x3D80_0000), Ok(Some(63)));
+        assert_eq!(measured_amount(0x3D7F_FFFF), Ok(Some(62)));
+        assert_eq!(measured_amount(0x3D80_0001), Ok(Some(63)));
+    }
+
+    #[test]
+    fn every_tie_goes_up() {
+        // 1,000 × j/16 is a whole number and a half for every odd j.
+        for j in (1..3_200u32).step_by(2) {
+            let tie = (j as f32 / 16.0).to_bits();
+            let up = (125 * j).div_ceil(2);
+            assert_eq!(measured_amount(tie), Ok(Some(up)));
+            assert_eq!(measured_amount(tie - 1), Ok(Some(up - 1)));
+            assert_eq!(measured_amount(tie + 1), Ok(Some(up)));
+        }
+    }
+
+    #[test]
+    fn amounts_at_the_ends_of_the_range() {
+        assert_eq!(measured_amount(0), Ok(Some(0)));
+        assert_eq!(measured_amount(1), Ok(Some(0)));
+        assert_eq!(measured_amount(0x0080_0000), Ok(Some(0)));
+        assert_eq!(measured_amount(200f32.to_bits()), Ok(Some(200_000)));
+        assert_eq!(measured_amount(200f32.to_bits() + 1), Err(READING));
+        assert_eq!(below_amount(200f32.to_bits()), Ok(Some(100_000)));
+        assert_eq!(below_amount(0x3A80_0000), Ok(Some(0)));
+        assert_eq!(below_amount(0x3A7F_FFFF), Err(READING));
+        assert_eq!(below_amount(0), Err(READING));
+    }
+
+    #[test]
+    fn signs_infinities_and_nans_are_refused() {
+        for bits in [
+            0x8000_0000,
+            0xBF80_0000,
+            0x7F80_0000,
+            0x7FC0_0000,
+            0xFFFF_FFFF,
+        ] {
+            for mark in 0..=3 {
+                assert_eq!(Reading::from_words(mark, bits), Err(READING));
+            }
+        }
+        assert_eq!(Reading::from_words(0, 1), Err(READING));
+        assert_eq!(Reading::from_words(3, 0), Err(READING));
+        assert_eq!(Reading::from_words(0, 0), Ok(Reading::Missing));
+    }
+
+    #[test]
+    fn a_value_equal_to_its_limit_is_measured() {
+        let limit = 0.1f32.to_bits();
+        assert_eq!(
+            Reading::from_analyser(limit, limit),
+            Reading::measured(limit)
+        );
+        assert_eq!(
+            Reading::from_analyser(limit - 1, limit),
+            Reading::below(limit)
+        );
+        assert_eq!(
+            Reading::from_analyser(limit + 1, limit),
+            Reading::measured(limit + 1)
+        );
+        assert_eq!(Reading::from_analyser(limit, 0), Err(READING));
+        assert_eq!(Reading::from_analyser(0x8000_0000, limit), Err(READING));
+    }
+
+    #[test]
+    fn words_come_back() {
+        for (mark, bits) in [(0, 0), (1, 0), (1, 0x3F80_0000), (2, 0x3A80_0000)] {
+            let words = Reading::from_words(mark, bits).map(Reading::words);
+            assert_eq!(words, Ok((mark, bits)));
+        }
+    }
+}

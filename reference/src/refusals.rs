@@ -1,0 +1,57 @@
+//! "Refusals that come from the input" and "Refusals that come from the state".
+
+/// "A refusal returns its number, nothing else changes."
+pub type Refusal = u32;
+
+/// "1 record not 25 words."
+pub const RECORD_LENGTH: Refusal = 1;
+/// "2 sample number."
+pub const SAMPLE_NUMBER: Refusal = 2;
+/// "3 kind."
+pub const KIND: Refusal = 3;
+/// "4 pH."
+pub const PH: Refusal = 4;
+/// "5 conductivity."
+pub const CONDUCTIVITY: Refusal = 5;
+/// "6 alkalinity."
+pub const ALKALINITY: Refusal = 6;
+/// "7 a reading's mark or value."
+pub const READING: Refusal = 7;
+/// "8 a batch ends early or has words left over."
+pub const BATCH_LENGTH: Refusal = 8;
+/// "9 a count beyond its range."
+pub const COUNT: Refusal = 9;
+/// "10 a chart's element out of range or repeated, or a value out of range."
+pub const CHART: Refusal = 10;
+/// "11 docket closed, or one of the open ones named above that no offers produce."
+pub const DOCKET: Refusal = 11;
+/// "12 the count is 1 or 2 and number or kind differs from the record held."
+pub const OTHER_SAMPLE: Refusal = 12;
+/// "13 output shorter than the answer."
+pub const OUTPUT: Refusal = 13;
+
+/// All thirteen in the order in which document 01 names them.
+pub const ALL: [Refusal; 13] = [
+    RECORD_LENGTH,
+    SAMPLE_NUMBER,
+    KIND,
+    PH,
+    CONDUCTIVITY,
+    ALKALINITY,
+    READING,
+    BATCH_LENGTH,
+    COUNT,
+    CHART,
+    DOCKET,
+    OTHER_SAMPLE,
+    OUTPUT,
+];
+
+/// Refuses with `refusal` unless the condition is met.
+pub fn require(condition: bool, refusal: Refusal) -> Result<(), Refusal> {
+    if condition {
+        Ok(())
+    } else {
+        Err(refusal)
+    }
+}
