@@ -1,5 +1,4 @@
 -- The laws behind this crate's contracts.
-mod CopyLaws
 mod CallLaws
 mod WordLaws
 mod OfferLaws

@@ -12,7 +12,7 @@ use Rattle.refusal.specs.Outcome.Outcome.{given}
 use Rattle.docket.specs.Terms.{Standing, DocketTerms}
 use Rattle.docket.specs.Terms.Standing.{«open», consistent, confirmed, unsettled}
 use Rattle.analyser.specs.DocketWords.{standingNumber, docketWords, docketLength, standingFrom, standingIn, docketFrom}
-use Rattle.analyser.specs.Steps.{placed}
+use Rattle.refusal.specs.Lent.{placed}
 
 -- an array of zeros, with its first two words stored
 abbrev begun : ℕ → ℕ → List ℕ

@@ -1,7 +1,6 @@
 -- What the steps of these calls answer or leave. Only the contracts of private functions cite this file.
-use mathlib.Core.List.{List, _++_}
-use Prim.Native.Nat.{ℕ, _+_}
-use lib.ListN.{length, take, drop}
+use mathlib.Core.List.{List}
+use Prim.Native.Nat.{ℕ}
 use Rattle.refusal.specs.Outcome.{Outcome}
 use Rattle.refusal.specs.Outcome.Outcome.{given, refused}
 use Rattle.refusal.specs.Numbers.{numberOf}
@@ -13,10 +12,6 @@ use Rattle.analyser.specs.declared.docket_words.LentState.the-variants a
 use Rattle.analyser.specs.Codes.{andThen}
 use Rattle.analyser.specs.DocketWords.{docketAt}
 use Rattle.analyser.specs.LentDockets.{wordsAfter}
-
--- words copied over old ones, from a place on
-abbrev pub placed : List ℕ → ℕ → List ℕ → List ℕ
-placed old at words = take at old ++ words ++ drop (at + length words) old
 
 abbrev pub stateOutcome : LentState → Outcome Standing
 stateOutcome (lentState.Given s) = given (standingOf s)

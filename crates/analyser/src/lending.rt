@@ -4,9 +4,8 @@ ghost use mathlib.Core.Path.{_≡_};
 ghost use Prim.Native.Nat.{_+_, _≤_};
 ghost use lib.ListN.{length};
 ghost use Rattle.refusal.specs.Outcome.Outcome.{given};
-ghost use Rattle.refusal.specs.Lent.{fitting, lentAfter};
+ghost use Rattle.refusal.specs.Lent.{fitting, lentAfter, placed};
 ghost use Rattle.analyser.specs.Codes.{codeOf};
-ghost use Rattle.analyser.specs.Steps.{placed};
 
 // An answer into the first words of a lent slice: the test for room is the last that a call makes.
 pub fn lend(answer: &[u32], lent: &mut [u32]) -> u32

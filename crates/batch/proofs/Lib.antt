@@ -3,7 +3,6 @@ mod SliceLaws
 mod ManyLaws
 mod ElementLaws
 mod ChartLaws
-mod PlaceLaws
 mod FlagLaws
 mod SampleLaws
 mod WholeLaws

@@ -15,10 +15,11 @@ use Rattle.judge.specs.Judgements.{Four, judgementOf}
 use Rattle.batch.specs.FromFront.{Read, taken, many}
 use Rattle.batch.specs.Batches.{Sample, mostSamples, sampleOf, samplesOf}
 use Rattle.batch.specs.Rows.{rowWords, rowWith}
-use Rattle.batch.specs.Said.{bufferWords, flaggedBy, rowBy, rowsBy, samplesAnswer, placed}
+use Rattle.refusal.specs.Lent.{placed}
+use Rattle.batch.specs.Said.{bufferWords, flaggedBy, rowBy, rowsBy, samplesAnswer}
 use Rattle.batch.proofs.ManyLaws.{then-taken, then-refused, many-none, many-refused, many-next, section-short, section-over, section-begins}
 use Rattle.batch.proofs.SliceLaws.{part-of}
-use Rattle.batch.proofs.PlaceLaws.{placed-take, placed-length}
+use Rattle.refusal.proofs.PlaceLaws.{placed-take, length-placed}
 
 -- ---- one sample
 
@@ -111,7 +112,7 @@ module _ (words : List ℕ) (count : ℕ) (es gs buffer : List ℕ) (at size i :
         few = m .few;
         inside = h;
         made = omega (arith, m .made);
-        room = ap length p ∙ placed-length buffer row size fits ∙ m .room;
+        room = ap length p ∙ length-placed buffer size row fits ∙ m .room;
         before = m .before ++ a ∷ [];
         counted = length-append (m .before) (a ∷ []) ∙ ap (λ (n : ℕ). n + 1) (m .counted);
         rest = m .rest

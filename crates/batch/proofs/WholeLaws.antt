@@ -7,48 +7,36 @@ use Prim.Native.Nat.{ℕ, _-_, _≤_, _<_}
 use lib.Dec.{eqb}
 use lib.ListN.{length, take, drop}
 use lib.Seq.{length-take-le}
-use borrow.Author.Tests.{le-leb, lt-leb}
 use Rattle.refusal.specs.Outcome.{Outcome, demand}
 use Rattle.refusal.specs.Outcome.Outcome.{given, refused}
 use Rattle.refusal.specs.Numbers.{numberOf}
-use Rattle.refusal.specs.Lent.{fitting, lengthOf, lentAfter, writtenOutcome}
+use Rattle.refusal.specs.Lent.{writtenOutcome, placed}
 use Rattle.refusal.specs.declared.Refusal.{Refusal}
 use Rattle.refusal.specs.declared.Refusal.the-variants as refusal
 use Rattle.refusal.specs.declared.Written.{Written}
 use Rattle.refusal.specs.declared.Written.the-variants as written
+use Rattle.refusal.proofs.LentLaws.{Answers, refused-before, too-short, written as written-whole}
+use Rattle.refusal.proofs.PlaceLaws.{placed-front}
 use Rattle.batch.specs.declared.Ended.{Ended}
 use Rattle.batch.specs.declared.Ended.the-variants as ended
 use Rattle.batch.specs.declared.ChartColumns.{ChartColumns}
 use Rattle.batch.specs.FromFront.{Read, taken, then}
 use Rattle.batch.specs.Batches.{Chart, Sample, elementsOf, chartsOf, samplesOf, nothingLeft, batchOf}
 use Rattle.batch.specs.Rows.{answeredBy, rowsOf, batchAnswer}
-use Rattle.batch.specs.Said.{signalsIn, rowsBy, samplesAnswer, MadeSaid, ChartsEnded, ChartsSaid, placed}
+use Rattle.batch.specs.Said.{signalsIn, rowsBy, samplesAnswer, MadeSaid, ChartsEnded, ChartsSaid}
 use Rattle.batch.proofs.SliceLaws.{rest-of, front-of}
 use Rattle.batch.proofs.ManyLaws.{then-taken, then-refused}
-use Rattle.batch.proofs.PlaceLaws.{placed-front}
 use Rattle.batch.proofs.FlagLaws.{flag-same}
 
--- ---- the ways out, where x was to be answered and the lent slice was old
-
+-- what is returned and what the lent slice then holds, where x was to be answered and the slice was old
 abbrev Done : Outcome (List ℕ) → List ℕ → Written → List ℕ → Type 0
-Done x old r new = (writtenOutcome r ≡ lengthOf (fitting (length old) x)) × (new ≡ lentAfter (fitting (length old) x) old)
-
-module _ (x : Outcome (List ℕ)) (old : List ℕ) where
-  by-refused : (why : Refusal) → x ≡ refused (numberOf why) → Done x old (written.Refused why) old
-  by-refused why e = (rw e, rw e)
-
-  module _ (answer : List ℕ) (e : x ≡ given answer) where
-    by-over : length old < length answer → Done x old (written.Refused refusal.OutputLength) old
-    by-over l = (rw (e, lt-leb _ _ l), rw (e, lt-leb _ _ l))
-
-    by-placed : length answer ≤ length old → Done x old (written.Length (length answer)) (placed old 0 answer)
-    by-placed l = (rw (e, le-leb _ _ l), rw (e, le-leb _ _ l) (placed-front old answer))
+Done x old r new = Answers x old (writtenOutcome r) new
 
 -- ---- how making x in a buffer ended
 
 module _ (x : Outcome (List ℕ)) (buffer : List ℕ) (r : Ended) (m : MadeSaid r x buffer) where
   pub made-refused : (old : List ℕ) (why : Refusal) → r ≡ ended.Refused why → Done x old (written.Refused why) old
-  made-refused old why e = by-refused x old why (rw e at m)
+  made-refused old why e = refused-before x old (numberOf why) (sym (rw e at m))
 
   module _ (size : ℕ) (e : r ≡ ended.Whole size) where
     said : (x ≡ given (take size buffer)) × (size ≤ length buffer)
@@ -61,12 +49,12 @@ module _ (x : Outcome (List ℕ)) (buffer : List ℕ) (r : Ended) (m : MadeSaid 
     whole = length-take-le size buffer made-fits
 
     pub made-over : (old : List ℕ) → length old < size → Done x old (written.Refused refusal.OutputLength) old
-    made-over old l = by-over x old (take size buffer) (said .0) (rw whole l)
+    made-over old l = too-short x old (take size buffer) (said .0) (rw whole l)
 
     pub made-placed : (old new : List ℕ) → size ≤ length old → new ≡ placed old 0 (take (size - 0) (drop 0 buffer)) → Done x old (written.Length size) new
     made-placed old new l p =
-        let d = by-placed x old (take size buffer) (said .0) (rw whole l) in
-        (ap given (sym whole) ∙ d .0, p ∙ ap (placed old 0) (front-of buffer size) ∙ d .1)
+        written-whole x old (take size buffer) (said .0) (rw whole l) (sym whole)
+        (p ∙ ap (placed old 0) (front-of buffer size) ∙ placed-front old (take size buffer))
 
 -- ---- the batch
 
@@ -98,7 +86,7 @@ charts-taken s rest cs e = by-samples (samplesOf rest) ∙ sym (ap answeredBy (t
 -- code lends
 module _ (s : List ℕ) (columns : ChartColumns) (m : ChartsSaid s columns) where
   pub read-refused : (old : List ℕ) (why : Refusal) → columns .ended ≡ ended.Refused why → Done (batchAnswer s) old (written.Refused why) old
-  read-refused old why e = by-refused (batchAnswer s) old why (charts-refused s (numberOf why) (rw e at m))
+  read-refused old why e = refused-before (batchAnswer s) old (numberOf why) (sym (charts-refused s (numberOf why) (rw e at m)))
 
   module _ (size : ℕ) (e : columns .ended ≡ ended.Whole size) where
     read : ChartsEnded (ended.Whole size) (columns .count) (columns .elements) (columns .signals) s

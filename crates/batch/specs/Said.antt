@@ -62,7 +62,3 @@ bufferWords = 1 + mostSamples * rowWords
 abbrev pub MadeSaid : Ended → Outcome (List ℕ) → List ℕ → Type 0
 MadeSaid (ended.Whole size) x buffer = (x ≡ given (take size buffer)) × (size ≤ length buffer)
 MadeSaid (ended.Refused why) x buffer = x ≡ refused (numberOf why)
-
--- d with the words of row in place of its own from the index at
-abbrev pub placed : List ℕ → ℕ → List ℕ → List ℕ
-placed d at row = take at d ++ row ++ drop (at + length row) d

@@ -6,10 +6,11 @@ ghost use mathlib.Core.Bool.{_&&_, not, cond};
 ghost use Prim.Native.Nat.{_+_, _≤_};
 ghost use lib.Dec.{eqb};
 ghost use lib.ListN.{length};
+ghost use Rattle.refusal.specs.Lent.{placed};
 ghost use Rattle.judge.specs.Record.{recordWords, hasReading};
 ghost use Rattle.judge.specs.Judgements.{numbersOf};
 ghost use Rattle.batch.specs.Rows.{rowWith};
-ghost use Rattle.batch.specs.Said.{flaggedBy, placed};
+ghost use Rattle.batch.specs.Said.{flaggedBy};
 
 // The row of a judged record.
 pub fn row(words: &[u32], verdicts: Verdicts, elements: &[u32], signals: &[u32]) -> [u32; ROW_WORDS]

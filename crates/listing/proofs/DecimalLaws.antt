@@ -9,8 +9,8 @@ use borrow.Author.Tests.{lt-ltb, le-ltb}
 use lib.ListN.{length, getD, set, length-append, List·getD-append}
 use lib.Seq.{getD-append-seam}
 use Rattle.listing.specs.Decimal.{codeOfZero, digit, decimalFrom, mostDigits, decimal, readFrom, Spelled, DecimalTruth}
-use Rattle.listing.specs.Steps.{placed}
-use Rattle.listing.proofs.PlaceLaws.{placed-one, placed-last}
+use Rattle.refusal.specs.Lent.{placed}
+use Rattle.refusal.proofs.PlaceLaws.{placed-one, placed-last}
 
 -- one digit, or the last after the others
 pub one-digit : (k n : ℕ) → n < 10 → decimalFrom (suc k) n ≡ digit n ∷ []

@@ -1,7 +1,7 @@
 -- The laws that the functions' proofs cite.
 mod WordLaws
 mod DecimalLaws
-mod PlaceLaws
+mod PartLaws
 mod LineLaws
 mod RoomLaws
 mod AnswerLaws

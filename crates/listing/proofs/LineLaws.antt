@@ -9,7 +9,7 @@ use lib.Seq.{drop-cons, drop-drop, append-snoc, take-all}
 use Rattle.batch.specs.Rows.{rowWords}
 use Rattle.listing.specs.Decimal.{decimal}
 use Rattle.listing.specs.Listing.{ending, line, rowLine, rowLines}
-use Rattle.listing.proofs.PlaceLaws.{Begins}
+use Rattle.listing.proofs.PartLaws.{Begins}
 
 -- a field with what ends it, and the rest of the line
 pub line-next : (s : List ℕ) (i end : ℕ) → i < length s → end ≡ ending (length s - i - 1)

@@ -2,8 +2,8 @@
 ghost use mathlib.Core.Path.{_≡_};
 ghost use Prim.Native.Nat.{_+_, _≤_, _<_};
 ghost use lib.ListN.{length};
+ghost use Rattle.refusal.specs.Lent.{placed};
 ghost use Rattle.listing.specs.Decimal.{digit, decimal};
-ghost use Rattle.listing.specs.Steps.{placed};
 
 // Writes a number at a place, the last digit first, and answers the place after it.
 pub fn put_number(text: &mut [u8], at: usize, n: u32) -> usize

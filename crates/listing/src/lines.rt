@@ -8,11 +8,10 @@ ghost use Prim.Native.Nat.{_+_, _*_, _≤_};
 ghost use lib.ListN.{length};
 ghost use Rattle.refusal.specs.Numbers.{numberOf};
 ghost use Rattle.refusal.specs.Outcome.Outcome.{given};
-ghost use Rattle.refusal.specs.Lent.{lentAfter};
+ghost use Rattle.refusal.specs.Lent.{lentAfter, placed};
 ghost use Rattle.batch.specs.Rows.{rowWords, Listed};
 ghost use Rattle.listing.specs.Decimal.{decimal};
 ghost use Rattle.listing.specs.Listing.{ending as Listing·ending, line, rowLine, rowLines, listingText, refusedText};
-ghost use Rattle.listing.specs.Steps.{placed};
 
 // The text of a batch's answer: the count on the first line, then a row a line.
 pub fn put_listing(text: &mut [u8], words: &[u32]) -> usize

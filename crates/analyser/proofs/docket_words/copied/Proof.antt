@@ -2,7 +2,7 @@
 use mathlib.Core.Path.{sym, _∙_}
 use lib.ListN.{replicate}
 use Rattle.judge.specs.Record.{recordWords}
-use Rattle.analyser.proofs.CopyLaws.{placed-whole}
+use Rattle.refusal.proofs.PlaceLaws.{placed-whole}
 use borrow.Author.Needs.{needs}
 use Rattle.analyser.proofs.docket_words.copied.Statement.{statement}
 use Rattle.analyser.proofs.docket_words.copied.Tie as tie

@@ -1,7 +1,7 @@
 -- The test for room is that of the definition; then the answer stands in the first words.
 use mathlib.Core.Path.{_∙_}
 use borrow.Author.Tests.{le-leb, lt-leb}
-use Rattle.analyser.proofs.CopyLaws.{placed-first}
+use Rattle.refusal.proofs.PlaceLaws.{placed-front}
 use borrow.Author.Needs.{needs}
 use Rattle.analyser.proofs.lending.lend.Statement.{statement}
 use Rattle.analyser.proofs.lending.lend.Tie as tie
@@ -22,7 +22,7 @@ returns-2 : tie.Need-returns-2
 returns-2 c = let called = c .before .before in
     let tested = called .before .before in
     let a = tested .before .before .before .args in
-    let room = le-leb _ _ (tested .if1 .left) in (simp room, simp room (called .place .ensures ∙ placed-first (a .lent .now) (a .answer .now)))
+    let room = le-leb _ _ (tested .if1 .left) in (simp room, simp room (called .place .ensures ∙ placed-front (a .lent .now) (a .answer .now)))
 
 pub lend-spec : {M : Type 1} → statement M
 lend-spec = tie.close (tie.spec number-requires returns place-requires same-length returns-2)

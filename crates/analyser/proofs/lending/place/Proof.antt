@@ -6,7 +6,7 @@ use mathlib.Core.List.{List}
 use Prim.Native.Nat.{ℕ, _+_, _-_, _≤_}
 use lib.ListN.{length, set, getD, length-set}
 use lib.Seq.{paste, paste-zero}
-use Rattle.analyser.proofs.CopyLaws.{one-more, all-copied}
+use Rattle.refusal.proofs.PlaceLaws.{paste-more, paste-all}
 use Rattle.analyser.proofs.lending.place.Statement.{statement}
 use Rattle.analyser.proofs.lending.place.Tie as tie
 
@@ -47,7 +47,7 @@ loop-again c = let at = c .before .before in
       search needs,
       length-set (at .loop .into) (a .at + i) _ ∙ at .loop .inv .1,
       ap (λ (l : List ℕ). set l (a .at + i) (getD (a .words .now) i 0)) (at .loop .inv .2)
-          ∙ one-more (a .into .now) (a .words .now) (a .at) i (at .before .pre) (search needs),
+          ∙ paste-more (a .into .now) (a .words .now) (a .at) i (at .before .pre) (search needs),
     )
 
 same-length : tie.Need-same-length Inv-loop μ-loop
@@ -57,7 +57,7 @@ returns : tie.Need-returns Inv-loop μ-loop
 returns c = let at = c .before in
     let a = at .before .args in
     let e : at .loop .i ≡ length (a .words .now) = omega arith in
-    at .loop .inv .2 ∙ ap (λ (k : ℕ). paste (a .into .now) (a .at) (a .words .now) k) e ∙ all-copied (a .into .now) (a .words .now) (a .at)
+    at .loop .inv .2 ∙ ap (λ (k : ℕ). paste (a .into .now) (a .at) (a .words .now) k) e ∙ paste-all (a .into .now) (a .words .now) (a .at)
 
 pub place-spec : {M : Type 1} → statement M
 place-spec =

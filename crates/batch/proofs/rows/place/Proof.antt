@@ -6,7 +6,7 @@ use native.Mathlib.Omega.{arith}
 use lib.ListN.{length, getD, set, length-set}
 use lib.Seq.{paste, paste-zero}
 use borrow.Author.Needs.{needs}
-use Rattle.batch.proofs.PlaceLaws.{paste-more, paste-all}
+use Rattle.refusal.proofs.PlaceLaws.{paste-more, paste-all}
 use Rattle.batch.proofs.rows.place.Statement.{statement}
 use Rattle.batch.proofs.rows.place.Tie as tie
 

@@ -5,7 +5,7 @@ use native.Mathlib.Omega.{arith}
 use Prim.Native.Nat.{ℕ, _+_, _/_, _^_, _<_}
 use lib.ListN.{length, length-set}
 use Rattle.listing.specs.Decimal.{decimal, mostDigits}
-use Rattle.listing.specs.Steps.{placed}
+use Rattle.refusal.specs.Lent.{placed}
 use Rattle.listing.proofs.DecimalLaws.{decimal-some, length-more, put-last, put-first}
 use Rattle.listing.proofs.decimal.put_number.Statement.{statement}
 use Rattle.listing.proofs.decimal.put_number.Tie as tie

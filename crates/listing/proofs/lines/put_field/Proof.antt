@@ -4,7 +4,7 @@ use mathlib.Core.List.{[], _∷_}
 use native.Mathlib.Omega.{arith}
 use lib.ListN.{length-append}
 use Rattle.listing.specs.Decimal.{decimal}
-use Rattle.listing.proofs.PlaceLaws.{placed-after}
+use Rattle.refusal.proofs.PlaceLaws.{placed-after}
 use Rattle.listing.proofs.lines.put_field.Statement.{statement}
 use Rattle.listing.proofs.lines.put_field.Tie as tie
 

@@ -6,7 +6,7 @@ use native.Mathlib.Omega.{arith}
 use Prim.Native.Nat.{_-_, _≤_}
 use lib.ListN.{length, drop, drop-of-length-le}
 use Rattle.listing.specs.Listing.{line}
-use Rattle.listing.proofs.PlaceLaws.{Left, left-all, left-none, left-room, left-next}
+use Rattle.listing.proofs.PartLaws.{Left, left-all, left-none, left-room, left-next}
 use Rattle.listing.proofs.LineLaws.{line-next, line-none}
 use Rattle.listing.proofs.lines.put_line.Statement.{statement}
 use Rattle.listing.proofs.lines.put_line.Tie as tie

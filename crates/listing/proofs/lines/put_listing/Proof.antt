@@ -6,8 +6,8 @@ use native.Mathlib.Omega.{arith}
 use Prim.Native.Nat.{ℕ, _+_}
 use lib.ListN.{length, getD, drop, length-append}
 use Rattle.listing.specs.Listing.{line, rowLines, listingText}
-use Rattle.listing.specs.Steps.{placed}
-use Rattle.listing.proofs.PlaceLaws.{second-room, both-written}
+use Rattle.refusal.specs.Lent.{placed}
+use Rattle.listing.proofs.PartLaws.{second-room, both-written}
 use Rattle.listing.proofs.LineLaws.{first-lent, rows-lent, rows-whole}
 use Rattle.listing.proofs.lines.put_listing.Statement.{statement}
 use Rattle.listing.proofs.lines.put_listing.Tie as tie

@@ -5,7 +5,7 @@ use mathlib.Core.Path.{ap}
 use native.Mathlib.Omega.{arith}
 use Prim.Native.Nat.{ℕ}
 use Rattle.listing.specs.Listing.{refusedWord, line, refusedText}
-use Rattle.listing.proofs.PlaceLaws.{second-room, both-written}
+use Rattle.listing.proofs.PartLaws.{second-room, both-written}
 use Rattle.listing.proofs.lines.put_refusal.Statement.{statement}
 use Rattle.listing.proofs.lines.put_refusal.Tie as tie
 

@@ -6,7 +6,7 @@ use Prim.Native.Nat.{_+_, _*_, _≤_}
 use lib.ListN.{length, drop}
 use Rattle.batch.specs.Rows.{rowWords}
 use Rattle.listing.specs.Listing.{rowLines}
-use Rattle.listing.proofs.PlaceLaws.{Left, left-all, left-none, left-room, left-next}
+use Rattle.listing.proofs.PartLaws.{Left, left-all, left-none, left-room, left-next}
 use Rattle.listing.proofs.LineLaws.{rows-next, rows-none}
 use Rattle.listing.proofs.lines.put_rows.Statement.{statement}
 use Rattle.listing.proofs.lines.put_rows.Tie as tie
