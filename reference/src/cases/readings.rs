@@ -7,7 +7,7 @@ use super::Cases;
 const SIGN: u32 = 0x8000_0000;
 
 /// Bit patterns at which something ends.
-const EDGES: [u32; 34] = [
+pub const EDGES: [u32; 34] = [
     0,
     1,
     2,

@@ -1,0 +1,137 @@
+//! Part 5: batches, each also as bytes through the listing.
+
+mod case;
+mod damage;
+mod layout;
+mod listing;
+
+use crate::bottles::any_bottle;
+use crate::case::{Mismatch, Run};
+use crate::charts::Chart;
+use crate::random::Draw;
+use case::BatchCase;
+use listing::ListCase;
+use reference::batch::{MOST_SAMPLES, ROW};
+use reference::cases::batches::{batch, chart};
+use reference::cases::bottle::Bottle;
+use reference::cases::generator::Generator;
+use reference::cases::greatest_batch::peltquarry_input;
+use reference::words::{to_bytes, whole_words};
+
+const DRAWN: u32 = 150_000;
+/// Batches of ten full charts and 400 samples, half of them damaged.
+const GREATEST: u32 = 100;
+
+pub fn run(run: &mut Run) -> Result<(), Mismatch> {
+    check(run, whole_words(&peltquarry_input()))?;
+    for _ in 0..GREATEST {
+        let mut words = greatest(&mut run.generator);
+        if run.generator.once_in(2) {
+            damage::damage(&mut run.generator, &mut words);
+        }
+        check(run, words)?;
+    }
+    for _ in 0..DRAWN {
+        let mut words = drawn(&mut run.generator);
+        for _ in 0..run.generator.pick(&[0, 0, 1, 1, 2]) {
+            damage::damage(&mut run.generator, &mut words);
+        }
+        check(run, words)?;
+    }
+    Ok(())
+}
+
+/// A batch into words and, as bytes, into text.
+fn check(run: &mut Run, words: Vec<u32>) -> Result<(), Mismatch> {
+    let bytes = listing::damaged_bytes(&mut run.generator, to_bytes(&words));
+    let room = room_about(&mut run.generator, answer_length(&words));
+    run.check(BatchCase { words, room })?;
+    let room = room_about(&mut run.generator, listing::text_length(&bytes));
+    run.check(ListCase::new(&bytes, room))
+}
+
+/// How many words the answer to a batch has; for a refused one, how many it
+/// might have had.
+fn answer_length(words: &[u32]) -> usize {
+    match crate::answers::batch(words) {
+        Ok(answer) => answer.len(),
+        Err(_) => 1 + ROW * (words.len() / 25),
+    }
+}
+
+/// A lent length: exact, a little shorter or longer, or none.
+fn room_about(generator: &mut Generator, exact: usize) -> usize {
+    match generator.below(8) {
+        0 => 0,
+        1 => generator.place(exact + 1),
+        2..=4 => generator.about(exact, 3),
+        5 => exact + generator.place(100),
+        _ => exact,
+    }
+}
+
+fn drawn(generator: &mut Generator) -> Vec<u32> {
+    let charts = generator.pick(&[0, 0, 1, 1, 2, 3, 10]);
+    let samples = generator.pick(&[0, 1, 1, 2, 2, 3, 5, 12]);
+    let mut elements: Vec<u32> = (1..=10).collect();
+    generator.shuffle(&mut elements);
+    let charts: Vec<Vec<u32>> = elements[..charts]
+        .iter()
+        .map(|&element| chart_words(generator, element))
+        .collect();
+    let samples: Vec<Bottle> = (0..samples).map(|_| any_bottle(generator)).collect();
+    batch(&charts, &samples)
+}
+
+fn chart_words(generator: &mut Generator, element: u32) -> Vec<u32> {
+    let Chart { setup, later } = Chart::drawn(generator);
+    chart(element, &setup, &later)
+}
+
+/// Ten charts of 64 + 64 values and 400 samples.
+fn greatest(generator: &mut Generator) -> Vec<u32> {
+    let mut elements: Vec<u32> = (1..=10).collect();
+    generator.shuffle(&mut elements);
+    let mut values =
+        |spread| -> Vec<u32> { (0..64).map(|_| 3_000 + generator.below(spread)).collect() };
+    let charts: Vec<Vec<u32>> = elements
+        .into_iter()
+        .map(|element| chart(element, &values(300), &values(340)))
+        .collect();
+    let samples: Vec<Bottle> = (0..MOST_SAMPLES).map(|_| any_bottle(generator)).collect();
+    batch(&charts, &samples)
+}
+
+#[cfg(test)]
+mod tests {
+    use super::*;
+
+    #[test]
+    fn every_refusal_of_a_batch_and_its_answer_are_common() {
+        let mut generator = Generator::new(10);
+        let mut times = [0; 11];
+        for _ in 0..40_000 {
+            let mut words = drawn(&mut generator);
+            damage::damage(&mut generator, &mut words);
+            let refusal = crate::answers::batch(&words).err().unwrap_or(0);
+            times[refusal as usize] += 1;
+        }
+        // A record in a batch is never of another length: that is 8.
+        assert_eq!(times[1], 0);
+        times[1] = u32::MAX;
+        assert!(times.iter().all(|&times| times > 5), "{times:?}");
+    }
+
+    #[test]
+    fn flags_are_raised_and_not() {
+        let mut generator = Generator::new(11);
+        let mut times = [0; 2];
+        for answer in (0..1_000).filter_map(|_| crate::answers::batch(&drawn(&mut generator)).ok())
+        {
+            for row in answer[1..].chunks(ROW) {
+                times[row[5] as usize] += 1;
+            }
+        }
+        assert!(times.iter().all(|&times| times > 100), "{times:?}");
+    }
+}

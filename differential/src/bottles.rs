@@ -1,0 +1,169 @@
+//! Bottles drawn at random whose records their own tests let pass.
+
+use crate::floats::{any_reading, scattered_reading, MOST_AMOUNT};
+use crate::random::Draw;
+use reference::cases::bottle::Bottle;
+use reference::cases::generator::Generator;
+use reference::hydrogen::Ph;
+use reference::ions::{
+    alkalinity_charge, charge, ALKALINITY_CONDUCTANCE, AMMONIUM, ANIONS, CATIONS,
+    HYDROGEN_CONDUCTANCE, IONS, NITRATE, ORGANIC_CARBON, SODIUM, TABLE, TOTAL_NITROGEN,
+};
+use reference::record::READINGS;
+
+/// The greatest values of the words 3 and 4.
+const MOST_CONDUCTIVITY: u32 = 100_000;
+const MOST_ALKALINITY: u32 = 200_000;
+/// A tenth of a µS/cm in units of 10^−13 µS/cm.
+const TENTH: i128 = 1_000_000_000_000;
+
+/// Now as from the field, now anything a record may hold.
+pub fn any_bottle(generator: &mut Generator) -> Bottle {
+    if generator.once_in(4) {
+        scattered(generator)
+    } else {
+        everyday(generator)
+    }
+}
+
+/// Any record that isn't refused, hardly ever one that makes sense.
+pub fn scattered(generator: &mut Generator) -> Bottle {
+    let mut bottle = Bottle::printed()
+        .number(1 + generator.of_any_size(999_998))
+        .kind(generator.between(1, 6))
+        .ph(generator.between(200, 1_000))
+        .conductivity(1 + generator.of_any_size(MOST_CONDUCTIVITY - 1))
+        .alkalinity(generator.of_any_size(MOST_ALKALINITY));
+    for place in 0..READINGS {
+        let (mark, bits) = scattered_reading(generator);
+        bottle = bottle.reading(place, mark, bits);
+    }
+    some_missing(generator, bottle)
+}
+
+/// A bottle as from the field: about balanced, its conductivity about what its
+/// ions make, so that every verdict occurs.
+pub fn everyday(generator: &mut Generator) -> Bottle {
+    let mut draft = Draft::drawn(generator);
+    draft.balance(generator);
+    let conductivity = draft.conductivity(generator);
+    let mut bottle = Bottle::printed()
+        .number(generator.between(1, 999_999))
+        .kind(generator.between(1, 6))
+        .ph(draft.ph)
+        .conductivity(conductivity)
+        .alkalinity(draft.alkalinity);
+    for (place, amount) in draft.amounts.into_iter().enumerate() {
+        let (mark, bits) = any_reading(generator, amount);
+        bottle = bottle.reading(place, mark, bits);
+    }
+    some_missing(generator, bottle)
+}
+
+/// In one bottle of four readings are missing.
+fn some_missing(generator: &mut Generator, mut bottle: Bottle) -> Bottle {
+    if generator.once_in(4) {
+        for _ in 0..generator.between(1, 3) {
+            bottle = bottle.missing(generator.place(READINGS));
+        }
+    }
+    bottle
+}
+
+/// A bottle in the making.
+struct Draft {
+    ph: u32,
+    alkalinity: u32,
+    amounts: [u32; READINGS],
+}
+
+impl Draft {
+    fn drawn(generator: &mut Generator) -> Draft {
+        // From thin rain to what no field has.
+        let most = generator.pick(&[50, 500, 2_000, 6_000, 40_000]);
+        let mut amounts = [0; READINGS];
+        for amount in &mut amounts[..IONS] {
+            *amount = generator.below(most);
+        }
+        let nitrogen = amounts[AMMONIUM] + amounts[NITRATE];
+        let total = (nitrogen + generator.below(40)).saturating_sub(10);
+        amounts[TOTAL_NITROGEN] = total.min(MOST_AMOUNT);
+        amounts[ORGANIC_CARBON] = generator.below(9_000);
+        let ph = match generator.below(3) {
+            0 => 100 * generator.between(2, 10),
+            1 => generator.between(200, 1_000),
+            _ => generator.between(420, 720),
+        };
+        Draft {
+            ph,
+            alkalinity: 0,
+            amounts,
+        }
+    }
+
+    fn hydrogen(&self) -> i128 {
+        Ph::new(self.ph).map_or(0, |ph| i128::from(ph.floor()))
+    }
+
+    fn charges(&self, ions: std::ops::Range<usize>) -> i128 {
+        ions.map(|ion| charge(ion, self.amounts[ion])).sum()
+    }
+
+    /// Fills the smaller side up with alkalinity or with sodium, now closely,
+    /// now carelessly.
+    fn balance(&mut self, generator: &mut Generator) {
+        let percent = generator.pick(&[3, 20, 60]);
+        let surplus = self.hydrogen() + self.charges(CATIONS) - self.charges(ANIONS);
+        if surplus > 0 {
+            let tenths = (surplus / alkalinity_charge(1)).min(120_000) as u32;
+            self.alkalinity = generator.near(tenths, percent);
+        } else {
+            let sodium = (-surplus / charge(SODIUM, 1)).min(90_000) as u32;
+            self.amounts[SODIUM] += generator.near(sodium, percent);
+        }
+    }
+
+    /// A measured conductivity about the calculated one.
+    fn conductivity(&self, generator: &mut Generator) -> u32 {
+        let part = |ion: usize| TABLE[ion].conductance * charge(ion, self.amounts[ion]);
+        let ions: i128 = (0..IONS).map(part).sum();
+        let alkalinity = ALKALINITY_CONDUCTANCE * alkalinity_charge(self.alkalinity);
+        let calculated = HYDROGEN_CONDUCTANCE * self.hydrogen() + alkalinity + ions;
+        let tenths = (calculated / TENTH).min(70_000) as u32;
+        generator.near(tenths, 35).clamp(1, MOST_CONDUCTIVITY)
+    }
+}
+
+#[cfg(test)]
+mod tests {
+    use super::*;
+    use crate::answers::judge;
+
+    #[test]
+    fn every_bottle_is_a_record() {
+        let mut generator = Generator::new(1);
+        for _ in 0..5_000 {
+            assert!(judge(any_bottle(&mut generator).words()).is_ok());
+        }
+    }
+
+    #[test]
+    fn every_verdict_but_undecided_is_common() {
+        let mut generator = Generator::new(2);
+        let mut times = [[0; 5]; 4];
+        for _ in 0..5_000 {
+            let verdicts = judge(everyday(&mut generator).words());
+            for (check, verdict) in verdicts.into_iter().flatten().enumerate() {
+                times[check][verdict as usize] += 1;
+            }
+        }
+        for (check, verdicts) in [[0, 1, 2, 4], [1, 2, 4, 4], [0, 1, 2, 4], [0, 1, 2, 4]]
+            .into_iter()
+            .enumerate()
+        {
+            assert!(verdicts
+                .iter()
+                .all(|&verdict: &usize| times[check][verdict] > 50));
+        }
+    }
+}

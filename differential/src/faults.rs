@@ -1,0 +1,357 @@
+//! Faults put into the stand-in: each must be found by the part that it names.
+
+use crate::answers::{self, DOCKET_WORDS};
+use crate::library::Library;
+use crate::stand_in::{write, StandIn};
+use reference::cases::floats::ties;
+use reference::charts::SEVEN_ON_ONE_SIDE;
+use reference::checks::{ion_balance, Conductivity, Inequality, IonBalance};
+use reference::ions::{IONS, ORGANIC_CARBON};
+use reference::record::{Record, FIRST_READING, RUNOFF};
+use reference::refusals::{BATCH_LENGTH, DOCKET};
+use std::cmp::Ordering;
+use std::collections::HashSet;
+use std::sync::OnceLock;
+
+#[derive(Clone, Copy, Debug, PartialEq, Eq)]
+pub enum Fault {
+    TieGoesDown,
+    LimitExcluded,
+    FloorForHydrogen,
+    CarbonLineIncluded,
+    TwentyInTheUpperClass,
+    WritesWhenRefused,
+    WritesBehindTheAnswer,
+    EqualIsBelow,
+    MinusZeroTaken,
+    ExactTenthDisagrees,
+    HoldsTheFirst,
+    ForeignStateIsOpen,
+    SixOnOneSide,
+    ExactlyThreeIsBeyond,
+    LeftoversTaken,
+    RepeatedElementTaken,
+    MissingElementFlagged,
+    LongBytesTaken,
+    LengthToldWhenRefused,
+}
+
+use Fault::*;
+
+/// Every fault with the part that must find it.
+pub const FAULTS: [(Fault, &str); 19] = [
+    (TieGoesDown, "records"),
+    (LimitExcluded, "records"),
+    (FloorForHydrogen, "records"),
+    (CarbonLineIncluded, "records"),
+    (TwentyInTheUpperClass, "records"),
+    (WritesWhenRefused, "records"),
+    (WritesBehindTheAnswer, "records"),
+    (EqualIsBelow, "readings"),
+    (MinusZeroTaken, "readings"),
+    (ExactTenthDisagrees, "offers"),
+    (HoldsTheFirst, "offers"),
+    (ForeignStateIsOpen, "offers"),
+    (SixOnOneSide, "charts"),
+    (ExactlyThreeIsBeyond, "charts"),
+    (LeftoversTaken, "batches"),
+    (RepeatedElementTaken, "batches"),
+    (MissingElementFlagged, "batches"),
+    (LongBytesTaken, "batches"),
+    (LengthToldWhenRefused, "batches"),
+];
+
+/// The stand-in with one fault.
+pub struct Faulty(pub Fault);
+
+impl Library for Faulty {
+    fn judge(&self, words: &[u32], verdicts: &mut [u32]) -> u32 {
+        if self.0 == TieGoesDown {
+            return StandIn.judge(&ties_lowered(words), verdicts);
+        }
+        let answer = StandIn.judge(words, verdicts);
+        match (self.0, Record::read(words)) {
+            (WritesWhenRefused, _) if answer != 0 => verdicts.fill(0),
+            (WritesBehindTheAnswer, _) if answer == 0 && verdicts.len() > 4 => verdicts[4] = 0,
+            (fault, Ok(record)) if answer == 0 => distort(fault, &record, verdicts),
+            _ => {}
+        }
+        answer
+    }
+
+    fn reading(&self, value: f32, limit: f32, words: &mut [u32]) -> u32 {
+        match self.0 {
+            EqualIsBelow if value == limit && limit > 0.0 => {
+                let below = answers::reading(value.to_bits() - 1, limit.to_bits());
+                write(below, words)
+            }
+            // Adding plus zero makes plus zero of minus zero.
+            MinusZeroTaken => StandIn.reading(value + 0.0, limit, words),
+            _ => StandIn.reading(value, limit, words),
+        }
+    }
+
+    fn fresh(&self, docket: &mut [u32]) -> u32 {
+        StandIn.fresh(docket)
+    }
+
+    fn offer(&self, docket: &mut [u32], words: &[u32]) -> u32 {
+        let before = docket.to_vec();
+        let answer = StandIn.offer(docket, words);
+        match self.0 {
+            ExactTenthDisagrees if answer == 0 => disagree_at_a_tenth(&before, docket),
+            HoldsTheFirst if answer == 0 && before[1] > 0 => {
+                docket[2..DOCKET_WORDS].copy_from_slice(&before[2..DOCKET_WORDS]);
+            }
+            ForeignStateIsOpen if answer == DOCKET && docket[0] > 3 => {
+                docket[0] = 0;
+                let answer = StandIn.offer(docket, words);
+                if answer != 0 {
+                    docket.copy_from_slice(&before);
+                }
+                return answer;
+            }
+            _ => {}
+        }
+        answer
+    }
+
+    fn signals(&self, setup: &[u32], later: &[u32], signals: &mut [u32]) -> u32 {
+        let answer = StandIn.signals(setup, later, signals);
+        if answer == 0 && self.0 == SixOnOneSide {
+            six_on_one_side(setup, later, signals);
+        }
+        if answer == 0 && self.0 == ExactlyThreeIsBeyond {
+            exactly_three_is_beyond(setup, later, signals);
+        }
+        answer
+    }
+
+    fn batch(&self, words: &[u32], answer: &mut [u32]) -> u32 {
+        match (self.0, answers::batch(words)) {
+            (LeftoversTaken, Err(BATCH_LENGTH)) => without_leftovers(words, answer),
+            (RepeatedElementTaken, Err(_)) => with_other_elements(words, answer),
+            (MissingElementFlagged, Ok(_)) => with_all_elements(words, answer),
+            (_, found) => write(found, answer),
+        }
+    }
+
+    fn list(&self, bytes: &[u8], text: &mut [u8], length: &mut usize) -> u32 {
+        let bytes = match self.0 {
+            // A whole word more than the listing takes.
+            LongBytesTaken if bytes.len() == 45_252 => &bytes[..45_248],
+            _ => bytes,
+        };
+        let answer = StandIn.list(bytes, text, length);
+        if self.0 == LengthToldWhenRefused && answer != 0 {
+            *length = answers::list(bytes).len();
+        }
+        answer
+    }
+}
+
+/// Every float on a tie replaced by the one before it, whose amount is the
+/// lower one.
+fn ties_lowered(words: &[u32]) -> Vec<u32> {
+    static TIES: OnceLock<HashSet<u32>> = OnceLock::new();
+    let ties = TIES.get_or_init(|| ties().into_iter().collect());
+    let lowered = |(place, &word): (usize, &u32)| {
+        let is_float = place > FIRST_READING && place % 2 == 0;
+        word - u32::from(is_float && ties.contains(&word))
+    };
+    words.iter().enumerate().map(lowered).collect()
+}
+
+fn distort(fault: Fault, record: &Record, verdicts: &mut [u32]) {
+    match fault {
+        LimitExcluded => exclude_the_limit(record, verdicts),
+        FloorForHydrogen => take_the_floor(record, verdicts),
+        CarbonLineIncluded => include_the_carbon_line(record, verdicts),
+        TwentyInTheUpperClass if record.conductivity == 200 && verdicts[0] == 1 => {
+            let mut above = record.clone();
+            above.conductivity = 201;
+            verdicts[0] = ion_balance(&above).number();
+        }
+        _ => {}
+    }
+}
+
+/// Both inequalities of a record, with the place of their verdict.
+fn inequalities(record: &Record) -> Option<[(usize, Box<dyn Inequality>); 2]> {
+    let balance = Box::new(IonBalance::of(record)?);
+    let conductivity = Box::new(Conductivity::of(record)?);
+    Some([(0, balance), (1, conductivity)])
+}
+
+/// "Less" in place of "at most": with hydrogen exactly on a limit, outside.
+fn exclude_the_limit(record: &Record, verdicts: &mut [u32]) {
+    let h = i128::from(record.ph.floor());
+    for (place, inequality) in inequalities(record).into_iter().flatten() {
+        let span = inequality.span();
+        let on = |end: reference::checks::Fraction| end.numerator == h * end.denominator;
+        let on_a_limit = on(span.least) || on(span.greatest);
+        if verdicts[place] == 1 && record.ph.has_whole_hydrogen() && on_a_limit {
+            verdicts[place] = 2;
+        }
+    }
+}
+
+/// h taken for H.
+fn take_the_floor(record: &Record, verdicts: &mut [u32]) {
+    let h = i128::from(record.ph.floor());
+    for (place, inequality) in inequalities(record).into_iter().flatten() {
+        if verdicts[place] == 3 {
+            verdicts[place] = if inequality.holds_at(h) { 1 } else { 2 };
+        }
+    }
+}
+
+/// Runoff with exactly 5,000 µg/L of carbon judged, too.
+fn include_the_carbon_line(record: &Record, verdicts: &mut [u32]) {
+    if record.kind == RUNOFF && record.amount(ORGANIC_CARBON) == Some(5_000) {
+        let mut bulk = record.clone();
+        bulk.kind = 2;
+        verdicts[0] = ion_balance(&bulk).number();
+    }
+}
+
+/// Reopens, or leaves unsettled, a docket that was confirmed with a difference
+/// of exactly a tenth.
+fn disagree_at_a_tenth(before: &[u32], docket: &mut [u32]) {
+    let records = [&before[2..DOCKET_WORDS], &docket[2..DOCKET_WORDS]].map(Record::read);
+    let (2, [Ok(first), Ok(second)]) = (docket[0], records) else {
+        return;
+    };
+    let exact = |a: u32, b: u32| a != b && 10 * a.abs_diff(b) == a.max(b);
+    let ions = (0..IONS).filter_map(|ion| Some((first.amount(ion)?, second.amount(ion)?)));
+    let words = [
+        (first.conductivity, second.conductivity),
+        (first.alkalinity, second.alkalinity),
+    ];
+    if words.into_iter().chain(ions).any(|(a, b)| exact(a, b)) {
+        docket[0] = if docket[1] == 3 { 3 } else { 0 };
+    }
+}
+
+fn six_on_one_side(setup: &[u32], later: &[u32], signals: &mut [u32]) {
+    let sum: u32 = setup.iter().sum();
+    let side = |value: &u32| (value * setup.len() as u32).cmp(&sum);
+    for (start, six) in later.windows(6).enumerate() {
+        let all = |expected: Ordering| six.iter().all(|value| side(value) == expected);
+        if all(Ordering::Less) || all(Ordering::Greater) {
+            signals[start + 5] |= SEVEN_ON_ONE_SIDE;
+        }
+    }
+}
+
+/// A value exactly three deviations off signals as the next one out does.
+fn exactly_three_is_beyond(setup: &[u32], later: &[u32], signals: &mut [u32]) {
+    let n = setup.len() as i128;
+    let sum: i128 = setup.iter().map(|&value| i128::from(value)).sum();
+    let squares: i128 = setup.iter().map(|&value| i128::from(value).pow(2)).sum();
+    for (signal, &value) in signals.iter_mut().zip(later) {
+        let difference = n * i128::from(value) - sum;
+        if difference.pow(2) * (n - 1) == 9 * n * (n * squares - sum * sum) {
+            *signal |= u32::from(difference != 0);
+        }
+    }
+}
+
+/// The answer to the longest beginning that is a batch.
+fn without_leftovers(words: &[u32], answer: &mut [u32]) -> u32 {
+    let beginnings = (0..words.len())
+        .rev()
+        .map(|end| answers::batch(&words[..end]));
+    let found = beginnings.into_iter().find(Result::is_ok);
+    write(found.unwrap_or(Err(BATCH_LENGTH)), answer)
+}
+
+/// The answer where two charts of one element are read as of two.
+fn with_other_elements(words: &[u32], answer: &mut [u32]) -> u32 {
+    let renamed = |element: u32| {
+        let mut words = words.to_vec();
+        if words.len() > 1 && words[0] == 2 {
+            words[1] = element;
+        }
+        answers::batch(&words)
+    };
+    let is_in_range = words
+        .get(1)
+        .is_some_and(|element| (1..=10).contains(element));
+    let found = (1..=10).map(renamed).find(Result::is_ok);
+    match found {
+        Some(found) if is_in_range => write(found, answer),
+        _ => write(answers::batch(words), answer),
+    }
+}
+
+/// Charts flag samples in which their element is missing.
+fn with_all_elements(words: &[u32], answer: &mut [u32]) -> u32 {
+    let mut found = answers::batch(words);
+    if let Ok(rows) = &mut found {
+        let flagged = rows[1..].chunks(6).any(|row| row[5] == 1);
+        for row in rows[1..].chunks_mut(6) {
+            row[5] |= u32::from(flagged);
+        }
+    }
+    write(found, answer)
+}
+
+#[cfg(test)]
+mod tests {
+    use super::*;
+    use crate::parts::part;
+
+    #[test]
+    fn every_fault_is_found_by_its_part() {
+        for (fault, name) in FAULTS {
+            let part = part(name).expect("a part");
+            let report = part.run(&Faulty(fault), 1);
+            let mismatch = report.mismatch;
+            assert!(mismatch.is_some(), "{fault:?} wasn't found by {name}");
+        }
+    }
+
+    /// The input that the search ends with, for a fault that has a known
+    /// smallest one.
+    fn smallest_input(fault: Fault) -> String {
+        let (_, name) = FAULTS[FAULTS
+            .iter()
+            .position(|(f, _)| *f == fault)
+            .expect("a fault")];
+        let report = part(name).expect("a part").run(&Faulty(fault), 2);
+        report
+            .mismatch
+            .map_or(String::new(), |mismatch| mismatch.input)
+    }
+
+    #[test]
+    fn leftovers_shrink_to_an_empty_batch_and_a_word() {
+        let input = smallest_input(LeftoversTaken);
+        assert!(input.contains("all in all [0, 0, 0]"), "{input}");
+    }
+
+    #[test]
+    fn six_on_one_side_shrink_to_six_values() {
+        let input = smallest_input(SixOnOneSide);
+        let values = |name: &str| {
+            let line = input.lines().find(|line| line.contains(name));
+            line.map_or(0, |line| line.matches(',').count() + 1)
+        };
+        assert_eq!((values("setup"), values("later")), (10, 6), "{input}");
+    }
+
+    #[test]
+    fn minus_zero_shrinks_to_a_plain_limit() {
+        let input = smallest_input(MinusZeroTaken);
+        assert!(input.contains("2 words lent: value 0x80000000 (-0.0), limit 0x3F800000"));
+    }
+
+    #[test]
+    fn a_repeated_element_shrinks_to_two_charts_of_ten() {
+        let input = smallest_input(RepeatedElementTaken);
+        let (charts, values) = (input.matches("chart").count(), input.matches(", 10, 0, 0"));
+        assert_eq!((charts, values.count()), (2, 4), "{input}");
+        assert!(input.contains("28 words"), "{input}");
+    }
+}

@@ -1,0 +1,147 @@
+//! An offer to a docket that is handed in, also to one that no offers produce.
+
+use super::repeats::repeated;
+use super::{first_bottle, other_sample, DOCKET_WORDS, MOST_ROOM};
+use crate::answers;
+use crate::canary::{Cell, Lent};
+use crate::case::{Case, Difference};
+use crate::library::Library;
+use crate::outcome::Outcome;
+use crate::random::Draw;
+use crate::records::{damaged, describe_record, smaller_records};
+use crate::shrink::{simpler_room, simpler_words};
+use reference::cases::bottle::Bottle;
+use reference::cases::generator::Generator;
+
+#[derive(Clone)]
+pub struct HandedIn {
+    docket: Vec<u32>,
+    offer: Vec<u32>,
+}
+
+impl HandedIn {
+    /// Mostly a docket whose record the offer repeats; then something is
+    /// changed in it, or everything, or its length.
+    pub fn drawn(generator: &mut Generator) -> HandedIn {
+        let bottle = first_bottle(generator);
+        let mut docket = vec![drawn_state(generator), drawn_count(generator)];
+        docket.extend(held(generator, &bottle));
+        if generator.once_in(20) {
+            docket.iter_mut().for_each(|word| *word = generator.word());
+        }
+        let length = match generator.below(8) {
+            0 => generator.between(0, MOST_ROOM),
+            1 => generator.between(DOCKET_WORDS, MOST_ROOM),
+            _ => DOCKET_WORDS,
+        };
+        docket.extend((docket.len()..MOST_ROOM as usize).map(u32::old));
+        docket.truncate(length as usize);
+        let offer = offered(generator, &bottle);
+        HandedIn { docket, offer }
+    }
+}
+
+fn drawn_state(generator: &mut Generator) -> u32 {
+    match generator.below(12) {
+        0 => generator.between(1, 3),
+        1 => generator.pick(&[4, 5, 255, 256, 1 << 16, u32::MAX]),
+        2 => generator.word(),
+        _ => 0,
+    }
+}
+
+fn drawn_count(generator: &mut Generator) -> u32 {
+    match generator.below(12) {
+        0 => 3,
+        1 => generator.pick(&[4, 255, 256, 257, 258, 1 << 16, u32::MAX - 1, u32::MAX]),
+        2 => generator.word(),
+        3 => 0,
+        _ => generator.between(1, 2),
+    }
+}
+
+/// The record in the docket.
+fn held(generator: &mut Generator, bottle: &Bottle) -> Vec<u32> {
+    let mut words = match generator.below(10) {
+        0 => damaged(generator),
+        1 => other_sample(generator, bottle).words().to_vec(),
+        2 => vec![0; 25],
+        _ => bottle.words().to_vec(),
+    };
+    if generator.once_in(10) {
+        generator.flip_bit(&mut words);
+    }
+    words.resize(25, 0);
+    words
+}
+
+fn offered(generator: &mut Generator, bottle: &Bottle) -> Vec<u32> {
+    match generator.below(10) {
+        0 => damaged(generator),
+        1 => other_sample(generator, bottle).words().to_vec(),
+        2 => super::consistent(bottle).words().to_vec(),
+        _ => repeated(generator, bottle).words().to_vec(),
+    }
+}
+
+impl Case for HandedIn {
+    fn difference(&self, library: &dyn Library) -> Option<Difference> {
+        let mut docket = Lent::holding(&self.docket);
+        let due = Outcome::due(&self.docket, answers::offer(&self.docket, &self.offer));
+        let answer = library.offer(docket.slice(), &self.offer);
+        Outcome::found(answer, &docket).against(&due)
+    }
+
+    fn smaller(&self) -> impl Iterator<Item = HandedIn> {
+        let shorter = simpler_room(self.docket.len(), DOCKET_WORDS as usize)
+            .filter(|&length| length < self.docket.len())
+            .map(|length| self.docket[..length].to_vec());
+        let held_at = self.docket.len().min(2);
+        let (head, held) = self.docket.split_at(held_at);
+        let heads = simpler_words(head, |_| 0).map(move |head| [&head, held].concat());
+        let helds = smaller_records(held).map(move |held| [head, &held].concat());
+        let dockets = shorter.chain(heads).chain(helds).map(|docket| HandedIn {
+            docket,
+            offer: self.offer.clone(),
+        });
+        let offers = smaller_records(&self.offer).map(|offer| HandedIn {
+            docket: self.docket.clone(),
+            offer,
+        });
+        dockets.chain(self.both_simpler()).chain(offers)
+    }
+
+    fn describe(&self) -> String {
+        let (head, held) = self.docket.split_at(self.docket.len().min(2));
+        format!(
+            "an offer to a docket of {} words: state and count {head:?}, held\n{}\nand offered\n{}",
+            self.docket.len(),
+            describe_record(held),
+            describe_record(&self.offer)
+        )
+    }
+}
+
+impl HandedIn {
+    /// The same words changed in the record held and in the record offered.
+    fn both_simpler(&self) -> impl Iterator<Item = HandedIn> + '_ {
+        let records = smaller_records(&self.offer);
+        records.filter_map(|simpler| {
+            let mut smaller = self.clone();
+            if simpler.len() != self.offer.len() || self.docket.len() < 2 + simpler.len() {
+                return None;
+            }
+            for (place, word) in smaller.docket[2..]
+                .iter_mut()
+                .take(simpler.len())
+                .enumerate()
+            {
+                if *word == self.offer[place] {
+                    *word = simpler[place];
+                }
+            }
+            smaller.offer = simpler;
+            Some(smaller)
+        })
+    }
+}

@@ -1,0 +1,143 @@
+//! Part 3: offers. Whole lists against the plain docket, step by step, and
+//! single offers to dockets that are handed in.
+
+mod followed;
+mod handed_in;
+mod repeats;
+
+use crate::bottles::any_bottle;
+use crate::case::{Mismatch, Run};
+use crate::on_the_limit::bottle_on_a_limit;
+use crate::random::Draw;
+use crate::records::damaged;
+use followed::Followed;
+use handed_in::HandedIn;
+use reference::cases::bottle::Bottle;
+use reference::cases::generator::Generator;
+use repeats::repeated;
+
+const LISTS: u32 = 400_000;
+const HANDED_IN: u32 = 600_000;
+/// The longest docket lent: three words more than it needs.
+const MOST_ROOM: u32 = 30;
+const DOCKET_WORDS: u32 = crate::answers::DOCKET_WORDS as u32;
+
+pub fn run(run: &mut Run) -> Result<(), Mismatch> {
+    for room in 0..=MOST_ROOM as usize {
+        let offers = vec![Bottle::printed().words().to_vec()];
+        run.check(Followed { offers, room })?;
+    }
+    for _ in 0..LISTS {
+        let offers = list(&mut run.generator);
+        let room = run.generator.between(DOCKET_WORDS, MOST_ROOM) as usize;
+        run.check(Followed { offers, room })?;
+    }
+    for _ in 0..HANDED_IN {
+        let case = HandedIn::drawn(&mut run.generator);
+        run.check(case)?;
+    }
+    Ok(())
+}
+
+/// A bottle to begin with: mostly one that isn't consistent, as a consistent
+/// one closes its docket at once.
+fn first_bottle(generator: &mut Generator) -> Bottle {
+    match generator.below(100) {
+        0..=39 => Bottle::doubtful(),
+        40..=42 => bottle_on_a_limit(generator).unwrap_or_else(Bottle::doubtful),
+        _ => any_bottle(generator),
+    }
+}
+
+/// A consistent bottle of the same sample: the printed one under its number
+/// and kind.
+fn consistent(bottle: &Bottle) -> Bottle {
+    let words = bottle.words();
+    Bottle::printed().number(words[0]).kind(words[1])
+}
+
+/// One sample analysed again and again, with offers in between that are
+/// refused.
+fn list(generator: &mut Generator) -> Vec<Vec<u32>> {
+    let mut bottles = vec![first_bottle(generator)];
+    let mut offers = Vec::new();
+    for _ in 0..generator.between(1, 8) {
+        let last = &bottles[bottles.len() - 1];
+        match generator.below(24) {
+            0 => offers.push(damaged(generator)),
+            1 => offers.push(damaged_repeat(generator, last)),
+            2 => offers.push(other_sample(generator, last).words().to_vec()),
+            _ => {
+                let next = next_analysis(generator, &bottles);
+                offers.push(next.words().to_vec());
+                bottles.push(next);
+            }
+        }
+    }
+    offers
+}
+
+/// Mostly a repeat of the last analysis; else a consistent one, or one from
+/// before, which isn't always the one that is compared.
+fn next_analysis(generator: &mut Generator, bottles: &[Bottle]) -> Bottle {
+    let last = &bottles[bottles.len() - 1];
+    match generator.below(20) {
+        0 => consistent(last),
+        1 => bottles[generator.place(bottles.len())].clone(),
+        _ => repeated(generator, last),
+    }
+}
+
+/// A repeat that is cut short or too long, or has a word out of its range.
+fn damaged_repeat(generator: &mut Generator, bottle: &Bottle) -> Vec<u32> {
+    let mut words = repeated(generator, bottle).words().to_vec();
+    match generator.below(3) {
+        0 => words.truncate(generator.place(25)),
+        1 => words.push(0),
+        _ => words[generator.place(5)] = generator.pick(&[0, 300_000_000]),
+    }
+    words
+}
+
+/// The same analysis under another number or kind, or both.
+fn other_sample(generator: &mut Generator, bottle: &Bottle) -> Bottle {
+    let (number, kind) = (bottle.words()[0], bottle.words()[1]);
+    let (next_number, next_kind) = (number % 999_999 + 1, kind % 6 + 1);
+    match generator.below(3) {
+        0 => bottle.number(next_number),
+        1 => bottle.kind(next_kind),
+        _ => bottle.number(next_number).kind(next_kind),
+    }
+}
+
+#[cfg(test)]
+mod tests {
+    use super::*;
+    use reference::docket::PlainDocket;
+
+    #[test]
+    fn every_course_is_common() {
+        let mut generator = Generator::new(13);
+        let mut refusals = [0; 14];
+        let mut dockets = [[0; 4]; 4];
+        for _ in 0..10_000 {
+            let mut plain = PlainDocket::new();
+            for offer in list(&mut generator) {
+                let answer = plain.offer(&offer).err().unwrap_or(0);
+                refusals[answer as usize] += 1;
+                dockets[plain.state().number() as usize][plain.count()] += 1;
+            }
+        }
+        for refusal in [0, 1, 2, 3, 4, 5, 6, 7, 11, 12] {
+            assert!(refusals[refusal] > 50, "{refusals:?}");
+        }
+        // Open with 0 to 2, consistent with 1 to 3, confirmed with 2 and 3,
+        // unsettled with 3.
+        for (state, counts) in [0..=2, 1..=3, 2..=3, 3..=3].into_iter().enumerate() {
+            assert!(
+                counts.into_iter().all(|count| dockets[state][count] > 50),
+                "{dockets:?}"
+            );
+        }
+    }
+}

@@ -1,0 +1,301 @@
+//! Bottles whose ion balance or conductivity changes from within to outside at
+//! a chosen place of hydrogen, to a fraction of a u.
+//!
+//! An end of the span of hydrogen for which an inequality holds is
+//! `unit × N / divisor` u with a whole number N (`Bound` of the other
+//! implementation tells which). The ions that give a wanted N are found by
+//! remainders here, where `Bound` itself searches step by step.
+
+use crate::random::Draw;
+use reference::cases::bottle::Bottle;
+use reference::cases::floats::float_of;
+use reference::cases::generator::Generator;
+use reference::cases::solver::{Bound, End, ENDS};
+use reference::hydrogen::Ph;
+use reference::ions::{
+    ALKALINITY_CONDUCTANCE, ANIONS, CALCIUM, CATIONS, CHLORIDE, HYDROGEN_CONDUCTANCE, IONS,
+    NITRATE, POTASSIUM, SULPHATE, TABLE,
+};
+
+const MOST_AMOUNT: i128 = 200_000;
+const MOST_ALKALINITY: i128 = 200_000;
+/// How often the ions are drawn again before a search gives up.
+const DRAWS: usize = 4_000;
+
+/// A bottle with an end of a span on h, on h + 1, between them or beside.
+pub fn bottle_on_a_limit(generator: &mut Generator) -> Option<Bottle> {
+    let end = generator.pick(&ENDS);
+    let mut bound = if generator.once_in(2) {
+        Bound::Balance(tenths_from(generator, 1), end)
+    } else {
+        Bound::Conductivity(1, end)
+    };
+    let ph = drawn_ph(generator, bound)?;
+    let h = i128::from(ph.floor());
+    if let Bound::Conductivity(tenths, _) = &mut bound {
+        // Less conductivity than hydrogen alone makes is never within.
+        let least = 2 * HYDROGEN_CONDUCTANCE * h / 1_000_000_000_000;
+        *tenths = tenths_from(generator, least as u32 + 10);
+    }
+    let n = bound.last_up_to(h) - 1 + i128::from(generator.below(4));
+    let ions = match bound {
+        Bound::Balance(tenths, end) => balancing(generator, tenths, end, n),
+        Bound::Conductivity(tenths, end) => conducting(generator, tenths, end, n),
+    };
+    Some(ions?.bottle(ph, bound))
+}
+
+/// A p with whole hydrogen, or one at which an end can fall between h and
+/// h + 1, or one at which it can fall on one of these.
+fn drawn_ph(generator: &mut Generator, bound: Bound) -> Option<Ph> {
+    let (unit, _) = bound.unit_and_divisor();
+    let promising: Vec<Ph> = match generator.below(4) {
+        0 => broken_hydrogen(|h| bound.is_between(bound.last_up_to(h) + 1, h)),
+        1 => broken_hydrogen(|h| h % unit == 0 || (h + 1) % unit == 0),
+        _ => (2..=10).filter_map(|n| Ph::new(100 * n).ok()).collect(),
+    };
+    match promising.as_slice() {
+        [] => Ph::new(generator.between(200, 1_000)).ok(),
+        promising => Some(generator.pick(promising)),
+    }
+}
+
+/// Every p that isn't a multiple of 100 with such a floor.
+fn broken_hydrogen(floor: impl Fn(i128) -> bool) -> Vec<Ph> {
+    (200..=1_000)
+        .filter_map(|p| Ph::new(p).ok())
+        .filter(|ph| !ph.has_whole_hydrogen() && floor(i128::from(ph.floor())))
+        .collect()
+}
+
+/// A measured conductivity of at least this, now and then at an end of a class.
+fn tenths_from(generator: &mut Generator, least: u32) -> u32 {
+    let ends: Vec<u32> = [1, 100, 101, 200, 201, 100_000]
+        .into_iter()
+        .filter(|&tenths| tenths >= least)
+        .collect();
+    match ends.as_slice() {
+        [] => 100_000,
+        ends if generator.once_in(2) => generator.pick(ends),
+        _ => (least + generator.of_any_size(4_000)).min(100_000),
+    }
+}
+
+/// The eight amounts and the alkalinity of a bottle.
+struct Ions {
+    amounts: [i128; IONS],
+    alkalinity: i128,
+}
+
+impl Ions {
+    /// Nothing where one of them is out of its range.
+    fn checked(self) -> Option<Ions> {
+        let fits = self.amounts.iter().all(|a| (0..=MOST_AMOUNT).contains(a));
+        (fits && (0..=MOST_ALKALINITY).contains(&self.alkalinity)).then_some(self)
+    }
+
+    fn bottle(&self, ph: Ph, bound: Bound) -> Bottle {
+        let (Bound::Balance(tenths, _) | Bound::Conductivity(tenths, _)) = bound;
+        let bottle = Bottle::without_ions()
+            .ph(ph.hundredths())
+            .conductivity(tenths)
+            .alkalinity(self.alkalinity as u32);
+        let amounts = self.amounts.iter().enumerate();
+        amounts.fold(bottle, |bottle, (ion, &amount)| {
+            bottle.reading(ion, 1, float_of(amount as u32))
+        })
+    }
+}
+
+/// The inverse of a number by a modulus that shares no factor with it.
+const fn inverse(number: i128, modulus: i128) -> i128 {
+    // Euclid's steps; each pair is (number × factor) by the modulus, factor.
+    let (mut old, mut new) = ((number, 1), (modulus, 0));
+    while new.0 != 0 {
+        let quotient = old.0 / new.0;
+        let next = (old.0 - quotient * new.0, old.1 - quotient * new.1);
+        old = new;
+        new = next;
+    }
+    old.1.rem_euclid(modulus)
+}
+
+fn charges(amounts: &[i128; IONS], ions: std::ops::Range<usize>) -> i128 {
+    ions.map(|ion| amounts[ion] * TABLE[ion].factor).sum()
+}
+
+/// In units of 10^4 u the ends are N / divisor with N = weight × An − divisor ×
+/// other cations. With L = 20 the span goes from (9 An − 11 C) / 11 to
+/// (11 An − 9 C) / 9; with L = 10 from (19 An − 21 C) / 21 to (21 An − 19 C) / 19.
+fn balance_weights(tenths: u32, end: End) -> (i128, i128) {
+    match (tenths <= 200, end) {
+        (true, End::Least) => (9, 11),
+        (true, End::Greatest) => (11, 9),
+        (false, End::Least) => (19, 21),
+        (false, End::Greatest) => (21, 19),
+    }
+}
+
+fn balancing(generator: &mut Generator, tenths: u32, end: End, n: i128) -> Option<Ions> {
+    let (weight, divisor) = balance_weights(tenths, end);
+    let most = generator.pick(&[100, 3_000, 30_000]);
+    (0..DRAWS).find_map(|_| {
+        let mut amounts = [0; IONS];
+        for amount in &mut amounts[CATIONS] {
+            *amount = i128::from(generator.below(most));
+        }
+        // Calcium's factor shares none with any weight: some of the next few
+        // amounts leaves no remainder.
+        let weighed = |amounts: &[i128; IONS]| n + divisor * charges(amounts, CATIONS);
+        while weighed(&amounts) % weight != 0 {
+            amounts[CALCIUM] += 1;
+        }
+        anions_of(generator, amounts, weighed(&amounts) / weight)
+    })
+}
+
+/// Draws sulphate and nitrate; chloride is what leaves a whole number of tenths
+/// of a µeq/L, 10^4 units, to alkalinity.
+fn anions_of(generator: &mut Generator, mut amounts: [i128; IONS], anions: i128) -> Option<Ions> {
+    for ion in [SULPHATE, NITRATE] {
+        let most = anions / 3 / TABLE[ion].factor;
+        amounts[ion] = i128::from(generator.below(most.clamp(0, MOST_AMOUNT) as u32 + 1));
+    }
+    const INVERSE: i128 = inverse(TABLE[CHLORIDE].factor, 10_000);
+    let rest = anions - charges(&amounts, ANIONS);
+    let factor = TABLE[CHLORIDE].factor;
+    amounts[CHLORIDE] = (rest * INVERSE).rem_euclid(10_000);
+    let alkalinity = (rest - amounts[CHLORIDE] * factor) / 10_000;
+    let ions = Ions {
+        amounts,
+        alkalinity,
+    };
+    ions.checked()
+}
+
+/// What one µg/L of an ion adds, in units of 10^4 × 10^−13 µS/cm.
+const fn conducted(ion: usize) -> i128 {
+    TABLE[ion].factor * TABLE[ion].conductance
+}
+
+/// What one tenth of a µeq/L of alkalinity adds, in the same units.
+const CONDUCTED_BY_ALKALINITY: i128 = ALKALINITY_CONDUCTANCE * 10_000;
+
+/// N is (100 ± M) × CM − 100 × R in units of 10^6 × 10^−13 µS/cm, so the parts
+/// R of the ions and of alkalinity must sum up to (100 ± M) × tenths × 10^6 − N.
+fn conducting(generator: &mut Generator, tenths: u32, end: End, n: i128) -> Option<Ions> {
+    let m = match tenths {
+        0..=100 => 30,
+        101..=200 => 20,
+        _ => 10,
+    };
+    let percent = match end {
+        End::Least => 100 - m,
+        End::Greatest => 100 + m,
+    };
+    let sum = percent * i128::from(tenths) * 1_000_000 - n;
+    (0..DRAWS).find_map(|_| ions_conducting(generator, sum))
+}
+
+/// The greatest number that divides what chloride adds and what potassium does.
+const SHARED: i128 = 14;
+const A: i128 = conducted(CHLORIDE) / SHARED;
+const B: i128 = conducted(POTASSIUM) / SHARED;
+const INVERSE: i128 = inverse(A, B);
+
+/// Draws all but potassium and chloride; these two are the solution of
+/// chloride × A + potassium × B = rest / SHARED with the least chloride.
+fn ions_conducting(generator: &mut Generator, sum: i128) -> Option<Ions> {
+    let mut amounts = [0; IONS];
+    let mut share = |conducted: i128| {
+        let most = sum / 12 / conducted;
+        i128::from(generator.below(most.clamp(0, MOST_AMOUNT) as u32 + 1))
+    };
+    for (ion, amount) in amounts.iter_mut().enumerate() {
+        *amount = share(conducted(ion));
+    }
+    let alkalinity = share(CONDUCTED_BY_ALKALINITY);
+    (amounts[POTASSIUM], amounts[CHLORIDE]) = (0, 0);
+    let parts: i128 = (0..IONS).map(|ion| amounts[ion] * conducted(ion)).sum();
+    let rest = sum - alkalinity * CONDUCTED_BY_ALKALINITY - parts;
+    if rest < 0 || rest % SHARED != 0 {
+        return None;
+    }
+    amounts[CHLORIDE] = rest / SHARED % B * INVERSE % B;
+    amounts[POTASSIUM] = (rest / SHARED - amounts[CHLORIDE] * A) / B;
+    let ions = Ions {
+        amounts,
+        alkalinity,
+    };
+    ions.checked()
+}
+
+#[cfg(test)]
+mod tests {
+    use super::*;
+    use crate::answers::judge;
+    use reference::checks::{Conductivity, Fraction, Inequality, IonBalance, Span};
+    use reference::record::Record;
+
+    #[test]
+    fn inverses_are_inverses() {
+        assert_eq!(A * INVERSE % B, 1);
+        assert_eq!(2821 * inverse(2821, 10_000) % 10_000, 1);
+    }
+
+    /// Whether the fraction is less than a step of N from this hydrogen.
+    fn is_near(end: Fraction, h: i128) -> bool {
+        (end.numerator - h * end.denominator).abs() <= 20_000 * end.denominator
+    }
+
+    #[test]
+    fn an_end_of_a_span_is_near() {
+        let mut generator = Generator::new(4);
+        let mut found = 0;
+        for bottle in (0..300).filter_map(|_| bottle_on_a_limit(&mut generator)) {
+            let record = Record::read(bottle.words()).expect("a record");
+            let h = i128::from(record.ph.floor());
+            let near = |span: Span| is_near(span.least, h) || is_near(span.greatest, h);
+            let balance = IonBalance::of(&record).map(|balance| balance.span());
+            let conductivity = Conductivity::of(&record).map(|inequality| inequality.span());
+            assert!(balance.is_some_and(near) || conductivity.is_some_and(near));
+            found += 1;
+        }
+        assert!(found > 150, "{found} found");
+    }
+
+    /// Both checks' undecided verdicts, and ends that are exactly on hydrogen or
+    /// on the whole numbers beside it, are all common.
+    #[test]
+    fn the_narrowest_places_are_common() {
+        let mut generator = Generator::new(5);
+        let mut undecided = [0; 2];
+        let mut on = [0; 3];
+        for bottle in (0..4_000).filter_map(|_| bottle_on_a_limit(&mut generator)) {
+            let record = Record::read(bottle.words()).expect("a record");
+            let verdicts = judge(bottle.words()).expect("a record");
+            for check in [0, 1] {
+                undecided[check] += u32::from(verdicts[check] == 3);
+            }
+            let h = i128::from(record.ph.floor());
+            let is_on = |whole: i128| {
+                let spans = [
+                    IonBalance::of(&record).map(|balance| balance.span()),
+                    Conductivity::of(&record).map(|inequality| inequality.span()),
+                ];
+                let ends = spans
+                    .into_iter()
+                    .flatten()
+                    .flat_map(|s| [s.least, s.greatest]);
+                ends.into_iter()
+                    .any(|end| end.numerator == whole * end.denominator)
+            };
+            let whole = record.ph.has_whole_hydrogen();
+            on[0] += u32::from(whole && is_on(h));
+            on[1] += u32::from(!whole && is_on(h));
+            on[2] += u32::from(!whole && is_on(h + 1));
+        }
+        assert!(undecided.iter().all(|&times| times > 50), "{undecided:?}");
+        assert!(on.iter().all(|&times| times > 20), "{on:?}");
+    }
+}

@@ -1,0 +1,82 @@
+//! Records that something happened to.
+
+use crate::bottles::any_bottle;
+use crate::random::Draw;
+use reference::cases::generator::Generator;
+use reference::cases::readings::EDGES;
+use reference::record::{FIRST_READING, LENGTH, READINGS};
+
+/// The least and the greatest value of the words 0 to 4.
+const RANGES: [(u32, u32); FIRST_READING] = [
+    (1, 999_999),
+    (1, 6),
+    (200, 1_000),
+    (1, 100_000),
+    (0, 200_000),
+];
+
+/// The longest slice offered as a record.
+const LONGEST: u32 = 60;
+
+/// A drawn record with one to three damages, which may yet leave it valid.
+pub fn damaged(generator: &mut Generator) -> Vec<u32> {
+    let mut words = any_bottle(generator).words().to_vec();
+    for _ in 0..generator.between(1, 3) {
+        damage(generator, &mut words);
+    }
+    words
+}
+
+fn damage(generator: &mut Generator, words: &mut Vec<u32>) {
+    if words.len() < LENGTH {
+        return generator.flip_bit(words);
+    }
+    match generator.below(12) {
+        0 => words[generator.place(LENGTH)] = generator.word(),
+        1 => words[generator.place(LENGTH)] = generator.pick(&[0, 1, 2, 3, u32::MAX]),
+        2 => words.swap(generator.place(LENGTH), generator.place(LENGTH)),
+        3 => words.resize(generator.between(0, LONGEST) as usize, 0),
+        4 => words.resize(generator.pick(&[24, 26]), generator.below(3)),
+        5 | 6 => end_of_a_range(generator, words),
+        7..=9 => edge_of_a_reading(generator, words),
+        _ => generator.flip_bit(words),
+    }
+}
+
+/// A word of 0 to 4 on an end of its range or one beside.
+fn end_of_a_range(generator: &mut Generator, words: &mut [u32]) {
+    let place = generator.place(FIRST_READING);
+    let (least, greatest) = RANGES[place];
+    let beside = generator.below(3);
+    words[place] = if generator.once_in(2) {
+        (least + beside).wrapping_sub(1)
+    } else {
+        greatest + beside - 1
+    };
+}
+
+/// A float at which something ends, under any mark.
+fn edge_of_a_reading(generator: &mut Generator, words: &mut [u32]) {
+    let mark = FIRST_READING + 2 * generator.place(READINGS);
+    if generator.once_in(2) {
+        words[mark] = generator.pick(&[0, 1, 1, 1, 2, 2, 2, 3, 4, 256, u32::MAX]);
+    }
+    words[mark + 1] = generator.pick(&EDGES);
+}
+
+#[cfg(test)]
+mod tests {
+    use super::*;
+    use crate::answers::judge;
+
+    #[test]
+    fn every_refusal_of_a_record_is_common() {
+        let mut generator = Generator::new(12);
+        let mut times = [0; 8];
+        for _ in 0..20_000 {
+            let refusal = judge(&damaged(&mut generator)).err().unwrap_or(0);
+            times[refusal as usize] += 1;
+        }
+        assert!(times.iter().all(|&times| times > 100), "{times:?}");
+    }
+}

@@ -1,0 +1,121 @@
+//! Part 1: records. Drawn ones, ones on a limit or a step beside it, and
+//! damaged ones.
+
+mod case;
+mod damage;
+mod flips;
+mod written;
+
+pub use case::{describe_record, smaller_records};
+pub use damage::damaged;
+
+use crate::bottles::any_bottle;
+use crate::case::{Mismatch, Run};
+use crate::floats::{any_reading, ends, MOST_AMOUNT};
+use crate::on_the_limit::bottle_on_a_limit;
+use crate::random::Draw;
+use case::RecordCase;
+use reference::cases::bottle::Bottle;
+use reference::cases::generator::Generator;
+use reference::readings::Reading;
+use reference::record::{FIRST_READING, READINGS};
+
+const DRAWN: u32 = 1_000_000;
+const FLIPS: u32 = 300_000;
+const SOLVED: u32 = 30_000;
+const NEIGHBOURS: u32 = 25;
+const DAMAGED: u32 = 1_000_000;
+
+pub fn run(run: &mut Run) -> Result<(), Mismatch> {
+    for _ in 0..DRAWN {
+        let bottle = any_bottle(&mut run.generator);
+        check(run, bottle.words())?;
+    }
+    for words in written::all() {
+        check(run, &words)?;
+    }
+    flips(run)?;
+    on_the_limit(run)?;
+    for _ in 0..DAMAGED {
+        let words = damaged(&mut run.generator);
+        check(run, &words)?;
+    }
+    Ok(())
+}
+
+/// Judges with a lent slice of 0 to 8 words, mostly long enough.
+fn check(run: &mut Run, words: &[u32]) -> Result<(), Mismatch> {
+    let room = match run.generator.below(10) {
+        0 => run.generator.below(4),
+        _ => run.generator.between(4, 8),
+    };
+    run.check(RecordCase::new(words, room as usize))
+}
+
+/// A verdict that changes from one value of a word to the next: both, and one
+/// step further on each side.
+fn flips(run: &mut Run) -> Result<(), Mismatch> {
+    for _ in 0..FLIPS {
+        let bottle = any_bottle(&mut run.generator);
+        for bottle in flips::beside_a_flip(&mut run.generator, &bottle) {
+            check(run, bottle.words())?;
+        }
+    }
+    Ok(())
+}
+
+fn on_the_limit(run: &mut Run) -> Result<(), Mismatch> {
+    for _ in 0..SOLVED {
+        let Some(bottle) = bottle_on_a_limit(&mut run.generator) else {
+            continue;
+        };
+        let bottle = bottle.kind(run.generator.pick(&[1, 2, 2, 6]));
+        check(run, bottle.words())?;
+        for _ in 0..NEIGHBOURS {
+            let neighbour = neighbour(&mut run.generator, &bottle);
+            check(run, neighbour.words())?;
+        }
+    }
+    Ok(())
+}
+
+/// The bottle with one word a step off, with another float of the same amount
+/// or of the next one, or as runoff about the line of organic carbon.
+fn neighbour(generator: &mut Generator, bottle: &Bottle) -> Bottle {
+    let words = bottle.words();
+    let step =
+        |generator: &mut Generator, value: u32| (value + generator.below(3)).saturating_sub(1);
+    match generator.below(8) {
+        0 => bottle.ph(step(generator, words[2]).clamp(200, 1_000)),
+        1 => bottle.conductivity(step(generator, words[3]).clamp(1, 100_000)),
+        2 => bottle.alkalinity(step(generator, words[4]).min(200_000)),
+        3 => {
+            let carbon = generator.between(4_998, 5_001);
+            let (mark, bits) = any_reading(generator, carbon);
+            bottle.kind(5).reading(9, mark, bits)
+        }
+        _ => {
+            let place = generator.place(READINGS);
+            other_float(generator, bottle, place)
+        }
+    }
+}
+
+/// Another float for a reading: of the same amount, or the next bits after the
+/// ends of that amount's floats.
+fn other_float(generator: &mut Generator, bottle: &Bottle, place: usize) -> Bottle {
+    let mark = FIRST_READING + 2 * place;
+    let reading = Reading::from_words(bottle.words()[mark], bottle.words()[mark + 1]);
+    let Some(amount) = reading.ok().and_then(Reading::amount) else {
+        return bottle.amount(place, generator.below(9_000));
+    };
+    let (first, last) = ends(amount);
+    match generator.below(6) {
+        0 => bottle.reading(place, 1, first.saturating_sub(1)),
+        1 if amount < MOST_AMOUNT => bottle.reading(place, 1, last + 1),
+        _ => {
+            let (mark, bits) = any_reading(generator, amount);
+            bottle.reading(place, mark, bits)
+        }
+    }
+}

@@ -1,0 +1,57 @@
+//! The library's stand-in: the other implementation behind the same seven
+//! functions, so that the comparison can be tried without the library.
+
+use crate::answers::{self, DOCKET_WORDS};
+use crate::library::Library;
+use reference::refusals::{Refusal, OUTPUT};
+
+pub struct StandIn;
+
+/// Writes an answer into a lent slice, or leaves that as it is.
+pub fn write<T: Copy>(answer: Result<impl AsRef<[T]>, Refusal>, lent: &mut [T]) -> u32 {
+    let answer = match answer {
+        Ok(answer) => answer,
+        Err(refusal) => return refusal,
+    };
+    let answer = answer.as_ref();
+    let Some(place) = lent.get_mut(..answer.len()) else {
+        return OUTPUT;
+    };
+    place.copy_from_slice(answer);
+    0
+}
+
+impl Library for StandIn {
+    fn judge(&self, words: &[u32], verdicts: &mut [u32]) -> u32 {
+        write(answers::judge(words), verdicts)
+    }
+
+    fn reading(&self, value: f32, limit: f32, words: &mut [u32]) -> u32 {
+        write(answers::reading(value.to_bits(), limit.to_bits()), words)
+    }
+
+    fn fresh(&self, docket: &mut [u32]) -> u32 {
+        write(Ok([0; DOCKET_WORDS]), docket)
+    }
+
+    fn offer(&self, docket: &mut [u32], words: &[u32]) -> u32 {
+        write(answers::offer(docket, words), docket)
+    }
+
+    fn signals(&self, setup: &[u32], later: &[u32], signals: &mut [u32]) -> u32 {
+        write(answers::signals(setup, later), signals)
+    }
+
+    fn batch(&self, words: &[u32], answer: &mut [u32]) -> u32 {
+        write(answers::batch(words), answer)
+    }
+
+    fn list(&self, bytes: &[u8], text: &mut [u8], length: &mut usize) -> u32 {
+        let listed = answers::list(bytes);
+        let refusal = write(Ok(&listed), text);
+        if refusal == 0 {
+            *length = listed.len();
+        }
+        refusal
+    }
+}

@@ -1,0 +1,174 @@
+//! Part 6: the manual's own example sheet, judged row by row.
+
+use crate::canary::Lent;
+use crate::case::{Case, Difference, Mismatch, Run};
+use crate::library::Library;
+use crate::records::describe_record;
+use reference::cases::bottle::Bottle;
+use reference::record::READINGS;
+
+const SHEET: &str = include_str!("../validation/sheet.tsv");
+
+/// The sheet doesn't print a kind; to bulk samples of the open field all four
+/// checks apply, as all four have been done there.
+const BULK: u32 = 2;
+
+const CHECKS: [&str; 4] = ["ion balance", "conductivity", "Na/Cl", "nitrogen"];
+
+/// The one judgement in which document 01 and the sheet part: conductivity in
+/// row 20. The sheet corrects the calculated conductivity for ionic strength,
+/// which takes it from less than a tenth below the measured 41.1 µS/cm to more:
+/// there it is outside, printed as −11 %. Document 01 doesn't correct, and has
+/// it within.
+const PARTING: (u32, usize) = (20, 1);
+
+pub fn run(run: &mut Run) -> Result<(), Mismatch> {
+    for row in rows() {
+        run.check(row)?;
+    }
+    Ok(())
+}
+
+/// A row of the sheet: its record, and its four judgements as verdicts.
+#[derive(Clone, Debug)]
+struct Row {
+    number: u32,
+    record: Bottle,
+    published: [u32; 4],
+}
+
+fn rows() -> Vec<Row> {
+    let lines = SHEET.lines().filter(|line| !line.starts_with('#'));
+    lines.skip(1).map(Row::read).collect()
+}
+
+impl Row {
+    fn read(line: &str) -> Row {
+        let fields: Vec<&str> = line.split('\t').collect();
+        let number = fields[0].parse().expect("a row number");
+        let mut record = Bottle::without_ions()
+            .number(number)
+            .kind(BULK)
+            .ph(scaled(fields[1], 2))
+            .conductivity(scaled(fields[2], 1))
+            .alkalinity(scaled(fields[3], 1));
+        for place in 0..READINGS {
+            record = match fields[4 + place] {
+                "" => record.missing(place),
+                value => record.reading(place, 1, nearest_float(value)),
+            };
+        }
+        let published = [14, 15, 16, 17].map(|field| verdict(fields[field]));
+        Row {
+            number,
+            record,
+            published,
+        }
+    }
+
+    /// What is due: what is published, but for the one judgement that parts.
+    fn due(&self) -> [u32; 4] {
+        let mut due = self.published;
+        if self.number == PARTING.0 {
+            due[PARTING.1] = 1;
+        }
+        due
+    }
+}
+
+/// A decimal number times 10^places, which is whole for every field here.
+fn scaled(field: &str, places: usize) -> u32 {
+    let (whole, decimals) = field.split_once('.').unwrap_or((field, ""));
+    assert!(
+        decimals.len() <= places,
+        "{field} has more than {places} decimals"
+    );
+    let digits = format!("{whole}{decimals:0<places$}");
+    digits.parse().expect("a decimal number")
+}
+
+fn nearest_float(field: &str) -> u32 {
+    let float: f32 = field.parse().expect("a decimal number");
+    float.to_bits()
+}
+
+/// The verdict that a published judgement is.
+fn verdict(judgement: &str) -> u32 {
+    match judgement {
+        "ok" => 1,
+        "NO" | "NO TN" => 2,
+        other => panic!("the sheet has no judgement {other}"),
+    }
+}
+
+impl Case for Row {
+    fn difference(&self, library: &dyn Library) -> Option<Difference> {
+        let mut lent = Lent::<u32>::of_length(4);
+        let answer = library.judge(self.record.words(), lent.slice());
+        let found = (answer, lent.content());
+        (found != (0, &self.due())).then(|| Difference {
+            library: describe(answer, lent.content()),
+            reference: format!("{} (the sheet)", describe(0, &self.due())),
+        })
+    }
+
+    /// A published row can't be made smaller.
+    fn smaller(&self) -> impl Iterator<Item = Row> {
+        std::iter::empty()
+    }
+
+    fn describe(&self) -> String {
+        let record = describe_record(self.record.words());
+        format!("row {} of the sheet\n{record}", self.number)
+    }
+}
+
+fn describe(answer: u32, verdicts: &[u32]) -> String {
+    let verdicts: Vec<String> = CHECKS
+        .iter()
+        .zip(verdicts)
+        .map(|(check, verdict)| format!("{check} {verdict}"))
+        .collect();
+    match answer {
+        0 => verdicts.join(", "),
+        refusal => format!("refused {refusal}"),
+    }
+}
+
+#[cfg(test)]
+mod tests {
+    use super::*;
+    use crate::answers::judge;
+
+    #[test]
+    fn the_sheet_has_24_rows_of_bulk_samples() {
+        let rows = rows();
+        let numbers: Vec<u32> = rows.iter().map(|row| row.number).collect();
+        assert_eq!(numbers, (9..=32).collect::<Vec<u32>>());
+        assert_eq!(rows[0].record.words()[..5], [9, 2, 589, 456, 80]);
+        assert!(rows.iter().all(|row| judge(row.record.words()).is_ok()));
+    }
+
+    #[test]
+    fn exactly_one_judgement_parts() {
+        let mut parting = Vec::new();
+        for row in rows() {
+            let verdicts = judge(row.record.words()).expect("a record");
+            let both = verdicts.into_iter().zip(row.published).enumerate();
+            for (check, (verdict, published)) in both {
+                if verdict != published {
+                    parting.push((row.number, check, verdict, published));
+                }
+            }
+        }
+        assert_eq!(parting, [(PARTING.0, PARTING.1, 1, 2)]);
+    }
+
+    #[test]
+    fn decimals_are_scaled_exactly() {
+        assert_eq!(scaled("5.89", 2), 589);
+        assert_eq!(scaled("6.2", 2), 620);
+        assert_eq!(scaled("8", 1), 80);
+        assert_eq!(scaled("0", 1), 0);
+    }
+}
