@@ -1,3 +1,4 @@
 pub mod Answers
 pub mod Floors
+pub mod Rows
 pub mod TrueHydrogen

@@ -1,4 +1,5 @@
 // True hydrogen (document 01, 'Hydrogen'): the floor of H at a pH in hundredths, called p.
+mod rows;
 mod table;
 
 use refusal::Refusal;

@@ -1,15 +1,28 @@
--- `hydrogen::table::entry` meets its contract: the place is within the table, and its entry is the floor.
-use mathlib.Core.Path.{sym}
+-- `hydrogen::table::entry` meets its contract: p is where its row begins and a place in it.
+use mathlib.Core.Path.{_≡_, sym, ap, _∙_}
+use Prim.Native.Nat.{ℕ, _+_, _*_, _/_, _%_}
+use native.Mathlib.Nat.{div-add-mod}
+use native.Mathlib.Omega.{arith}
 use borrow.Author.Needs.{needs}
+use Rattle.hydrogen.specs.Floors.{greatestPh, floorAt}
+use Rattle.hydrogen.specs.Rows.{rowLength}
 use Rattle.hydrogen.proofs.FloorTable.{floors, floor-entry}
+use Rattle.hydrogen.proofs.RowLaws.{row-entry}
 use Rattle.hydrogen.proofs.table.entry.Statement.{statement}
 use Rattle.hydrogen.proofs.table.entry.Tie as tie
 
-sub-place : tie.Need-sub-place
-sub-place c = search needs
+returns : tie.Need-returns
+unfolding floors
+returns c = rw (c .if1 .taken) (sym (floor-entry greatestPh (omega arith) (omega arith)))
 
-cast-place : tie.Need-cast-place
-cast-place c = search needs
+cast-row : tie.Need-cast-row
+cast-row c = search needs
+
+div-row : tie.Need-div-row
+div-row c = search needs
+
+row-requires : tie.Need-row-requires
+row-requires c κs = search needs
 
 mul-result : tie.Need-mul-result
 mul-result c = search needs
@@ -17,9 +30,11 @@ mul-result c = search needs
 array-read-result : tie.Need-array-read-result
 array-read-result c = search needs
 
-returns : tie.Need-returns
-unfolding floors
-returns c = sym (floor-entry (c .args .p) (c .pre .0) (c .pre .1))
+returns-2 : tie.Need-returns-2
+returns-2 c =
+    let p : ℕ = c .before .before .args .p in
+    rw (c .row .ensures)
+    (row-entry (rowLength * (p / rowLength)) rowLength (p % rowLength) (omega arith) ∙ ap floorAt (div-add-mod p rowLength))
 
 pub entry-spec : {M : Type 1} → statement M
-entry-spec = tie.close (tie.spec sub-place cast-place mul-result array-read-result returns)
+entry-spec = tie.close (tie.spec returns cast-row div-row row-requires mul-result array-read-result returns-2)

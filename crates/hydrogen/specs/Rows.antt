@@ -1,0 +1,13 @@
+-- A row of the table of floors, as the code holds it.
+use mathlib.Core.List.{List, [], _∷_}
+use Prim.Native.Nat.{ℕ, zero, suc}
+use Rattle.hydrogen.specs.Floors.{floorAt}
+
+-- the entries of a row
+abbrev pub rowLength : ℕ
+rowLength = 10
+
+-- the floors at n numbers p, one after the other, from p on
+abbrev pub floorsFrom : ℕ → ℕ → List ℕ
+floorsFrom p zero = []
+floorsFrom p (suc n) = floorAt p ∷ floorsFrom (suc p) n
