@@ -1,7 +1,7 @@
--- A test of every value of a list: of two lists in one, and in a loop that is left at the first value that fails. After i turns
--- the values from place i on decide.
+-- A test of every value of a list: of two lists in one, in a loop that is left at the first value that fails, where after i turns
+-- the values from place i on decide, and in a loop that remembers whether one failed.
 use mathlib.Core.Path.{_≡_, refl, ap, _∙_}
-use mathlib.Core.Bool.{Bool, true, false, _&&_}
+use mathlib.Core.Bool.{Bool, true, false, _&&_, and-true}
 use mathlib.Core.List.{List, [], _∷_, _++_}
 use Prim.Native.Nat.{ℕ, _+_, _≤_, _<_}
 use native.Mathlib.Numerals.{add-one}
@@ -33,3 +33,9 @@ module _ (f : ℕ → Bool) where
     pub ended : length l ≤ i → every f (drop i l) ≡ true
     unfolding every
     ended h = rw (drop-of-length-le l h)
+
+    pub one-more : (all : Bool) → i < length l → (all && every f (drop i l)) ≡ ((all && f (getD l i 0)) && every f (drop (i + 1) l))
+    one-more all h = ap (λ (b : Bool). all && b) (from h) ∙ and-assoc all (f (getD l i 0)) (every f (drop (i + 1) l))
+
+    pub all-seen : (all : Bool) → length l ≤ i → (all && every f (drop i l)) ≡ all
+    all-seen all h = ap (λ (b : Bool). all && b) (ended h) ∙ and-true all

@@ -26,12 +26,15 @@ pub fn beyond_three(setup: Setup, later: &[u32], i: usize) -> bool
     deviations::beyond(setup, 3, later[i])
 }
 
-// Rule 2.
+// Rule 2. Few values are beyond 2 at all: the others are done before either side is looked at.
 pub fn pair_beyond_two(setup: Setup, later: &[u32], i: usize) -> bool
     requires { ⌜ HasRoom setup ⌝ }
     requires { ⌜ (i < length (now later)) × InRoom (now later) ⌝ }
     ensures { λ r. ⌜ r ≡ pairBeyondTwo (termsOf setup) (now (later .entry)) i ⌝ }
 {
+    if !deviations::beyond(setup, 2, later[i]) {
+        return false;
+    }
     if pair_on(setup, Side::Above, later, i) {
         return true;
     }
