@@ -79,7 +79,7 @@ fn beyond_two(setup: Setup, side: Side, value: u32) -> bool
     deviations::beyond(setup, 2, value)
 }
 
-// Rule 4.
+// Rule 4. The first of the seven names the side.
 pub fn seven_on_one_side(setup: Setup, later: &[u32], i: usize) -> bool
     requires { ⌜ HasRoom setup ⌝ }
     requires { ⌜ (i < length (now later)) × InRoom (now later) ⌝ }
@@ -90,8 +90,8 @@ pub fn seven_on_one_side(setup: Setup, later: &[u32], i: usize) -> bool
     }
     let from = i - EARLIER;
     let end = i + 1;
-    if all_on(setup, Side::Above, &later[from..end]) {
-        return true;
+    if deviations::on_side(setup, Side::Above, later[from]) {
+        return all_on(setup, Side::Above, &later[from..end]);
     }
     all_on(setup, Side::Below, &later[from..end])
 }
@@ -111,7 +111,7 @@ fn all_on(setup: Setup, side: Side, values: &[u32]) -> bool
     true
 }
 
-// Rule 8.
+// Rule 8. The first two of the seven name the course.
 pub fn seven_in_order(later: &[u32], i: usize) -> bool
     requires { ⌜ i < length (now later) ⌝ }
     ensures { λ r. ⌜ r ≡ sevenInOrder (now (later .entry)) i ⌝ }
@@ -121,8 +121,8 @@ pub fn seven_in_order(later: &[u32], i: usize) -> bool
     }
     let from = i - EARLIER;
     let end = i + 1;
-    if ordered(Course::Rising, &later[from..end]) {
-        return true;
+    if in_step(Course::Rising, later[from], later[from + 1]) {
+        return ordered(Course::Rising, &later[from..end]);
     }
     ordered(Course::Falling, &later[from..end])
 }

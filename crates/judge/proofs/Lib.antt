@@ -6,6 +6,7 @@ mod TestedLaws
 mod Columns
 mod SumLaws
 mod IonLaws
+mod HeldLaws
 mod Crossing
 mod Mixing
 mod Deciding

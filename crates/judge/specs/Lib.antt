@@ -15,3 +15,4 @@ pub mod Ratios
 pub mod Judgements
 pub mod Truth
 pub mod Agreement
+pub mod Holding

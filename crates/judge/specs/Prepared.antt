@@ -9,7 +9,7 @@ use Rattle.judge.specs.declared.checks.Hydrogen.{Hydrogen}
 use Rattle.judge.specs.declared.ions.Sums.{Sums}
 use Rattle.judge.specs.Record.{recordWords, phOf, conductivityOf, alkalinityOf}
 use Rattle.judge.specs.Choices.{gap}
-use Rattle.judge.specs.Ranges.{isWhole, ionsKnown}
+use Rattle.judge.specs.Ranges.{massAt, isWhole, ionsKnown}
 use Rattle.judge.specs.Sums.{IonSums}
 
 -- the tests that the arithmetic of the checks rests on, and the floor
@@ -24,4 +24,4 @@ pub record Prepared (s : List ℕ) (known : Bool) (h : Hydrogen) (x : Sums) : Ty
   pub accepted : Accepted s (h .floor .0)
   pub isKnown : known ≡ ionsKnown s
   pub isGap : h .gap .0 ≡ gap (isWhole (phOf s))
-  pub sums : IonSums s x
+  pub sums : IonSums (massAt s) x

@@ -1,14 +1,14 @@
 // Which readings of a record are there, and their amounts.
 use crate::ions;
-use crate::record;
+use crate::record::Held;
 use reading::AmountResult;
 use reading::Mass;
 use reading::Reading;
 ghost use mathlib.Core.Path.{_≡_};
 ghost use Prim.Native.Nat.{_+_, _≤_};
-ghost use lib.ListN.{length};
-ghost use Rattle.judge.specs.Record.{recordWords, present, massOf};
-ghost use Rattle.judge.specs.Ranges.{ionsKnown};
+ghost use Rattle.judge.specs.Record.{present, massOf, allBelow};
+ghost use Rattle.judge.specs.Ions.{ions};
+ghost use Rattle.judge.specs.Holding.{thereHeld};
 
 // The amount of a reading, 0 where it is missing.
 pub fn mass(r: Reading) -> Mass
@@ -41,14 +41,12 @@ pub fn is_present(r: Reading) -> bool
 }
 
 // Whether none of the eight ions is missing.
-pub fn ions_known(words: &[u32]) -> bool
-    requires { ⌜ length (now words) ≡ recordWords ⌝ }
-    ensures { λ r. ⌜ r ≡ ionsKnown (now (words .entry)) ⌝ }
+pub fn ions_known(held: Held) -> bool
+    ensures { λ r. ⌜ r ≡ allBelow (thereHeld held) ions ⌝ }
 {
     let mut i: usize = 0;
     while i < ions::IONS {
-        let r = record::reading_at(words, i);
-        if !is_present(r) {
+        if !held.there[i] {
             return false;
         }
         i += 1;

@@ -1,7 +1,6 @@
 // The ion balance.
 use crate::Charge;
 use crate::Verdict;
-use crate::amounts;
 use crate::checks::Hydrogen;
 use crate::ions;
 use crate::ions::Sums;
@@ -10,22 +9,25 @@ use crate::window;
 use crate::window::Fraction;
 use crate::window::Span;
 use crate::window::Window;
-use reading::Reading;
 ghost use mathlib.Core.Path.{_≡_};
 ghost use Prim.Native.Nat.{_+_, _≤_};
-ghost use Rattle.judge.specs.Record.{present, massOf};
 ghost use Rattle.judge.specs.Verdicts.{verdictNumber};
 ghost use Rattle.judge.specs.Corners.{decided};
 ghost use Rattle.judge.specs.Prepared.{Prepared};
-ghost use Rattle.judge.specs.IonBalance.{balanceApplies, balanceLimit, balanceWindow, ionBalanceOf};
+ghost use Rattle.judge.specs.IonBalance.{balanceApplies, balanceAppliesTo, balanceLimit, balanceWindow, ionBalanceOf};
 
 // The check of a record. 'Not applicable' goes before 'missing'.
-pub fn of_record(words: &[u32], known: bool, hydrogen: Hydrogen, sums: Sums) -> Verdict
-    requires { ⌜ Prepared (now words) known hydrogen sums ⌝ }
+pub fn of_record(
+    words: &[u32],
+    applies: bool,
+    known: bool,
+    hydrogen: Hydrogen,
+    sums: Sums,
+) -> Verdict
+    requires { ⌜ (applies ≡ balanceAppliesTo (now words)) × Prepared (now words) known hydrogen sums ⌝ }
     ensures { λ r. ⌜ verdictNumber r ≡ ionBalanceOf (now (words .entry)) ⌝ }
 {
-    let carbon = record::reading_at(words, ions::ORGANIC_CARBON);
-    if !applies(words[record::KIND], carbon) {
+    if !applies {
         return Verdict::NotApplicable;
     }
     if !known {
@@ -38,8 +40,8 @@ pub fn of_record(words: &[u32], known: bool, hydrogen: Hydrogen, sums: Sums) -> 
 }
 
 // Open field samples, and runoff with little dissolved organic carbon, whose charge is not known.
-fn applies(kind: u32, carbon: Reading) -> bool
-    ensures { λ r. ⌜ r ≡ balanceApplies kind (present carbon) (massOf carbon) ⌝ }
+pub fn applies(kind: u32, there: bool, carbon: u64) -> bool
+    ensures { λ r. ⌜ r ≡ balanceApplies kind there carbon ⌝ }
 {
     if kind == 1 {
         return true;
@@ -50,10 +52,10 @@ fn applies(kind: u32, carbon: Reading) -> bool
     if kind != 5 {
         return false;
     }
-    if !amounts::is_present(carbon) {
+    if !there {
         return false;
     }
-    amounts::mass(carbon).0 < 5000
+    carbon < 5000
 }
 
 // The limit in percent, by the measured conductivity in tenths of µS/cm.

@@ -8,9 +8,11 @@ use crate::ions;
 use crate::nitrogen_check;
 use crate::ratio_check;
 use crate::record;
+use crate::record::Held;
 ghost use mathlib.Core.Path.{_≡_};
 ghost use Rattle.judge.specs.Choices.{gap};
 ghost use Rattle.judge.specs.Ranges.{isWhole};
+ghost use Rattle.judge.specs.Holding.{Holds};
 ghost use Rattle.judge.specs.Prepared.{Accepted};
 ghost use Rattle.judge.specs.Judgements.{numbersOf, verdictsOf};
 
@@ -29,20 +31,26 @@ fn gap_at(p: u32) -> Charge
     Charge(1)
 }
 
-pub fn verdicts(words: &[u32], floor: u64) -> Verdicts
-    requires { ⌜ Accepted (now words) floor ⌝ }
+pub fn verdicts(words: &[u32], floor: u64, held: Held) -> Verdicts
+    requires { ⌜ Accepted (now words) floor × Holds (now words) held ⌝ }
     ensures { λ r. ⌜ numbersOf r ≡ verdictsOf (now (words .entry)) ⌝ }
 {
     let hydrogen = Hydrogen {
         floor: Charge(floor),
         gap: gap_at(words[record::PH]),
     };
-    let known = amounts::ions_known(words);
-    let sums = ions::sums_of(words);
-    let balance = balance_check::of_record(words, known, hydrogen, sums);
+    let kind = words[record::KIND];
+    let known = amounts::ions_known(held);
+    let sums = ions::sums_of(held);
+    let applies = balance_check::applies(
+        kind,
+        held.there[ions::ORGANIC_CARBON],
+        held.masses[ions::ORGANIC_CARBON],
+    );
+    let balance = balance_check::of_record(words, applies, known, hydrogen, sums);
     let conductivity = conductivity_check::of_record(words, known, hydrogen, sums);
-    let ratio = ratio_check::of_record(words);
-    let nitrogen = nitrogen_check::of_record(words);
+    let ratio = ratio_check::of_record(kind, held);
+    let nitrogen = nitrogen_check::of_record(held);
     Verdicts {
         balance,
         conductivity,

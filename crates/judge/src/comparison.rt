@@ -1,17 +1,17 @@
 // Whether two accepted records agree.
-use crate::amounts;
 use crate::ions;
 use crate::record;
-use reading::Reading;
+use crate::record::Held;
 ghost use mathlib.Core.Path.{_≡_};
 ghost use Prim.Native.Nat.{_≤_};
 ghost use lib.ListN.{length};
 ghost use Rattle.judge.specs.Record.{recordWords, allBelow};
 ghost use Rattle.judge.specs.Ions.{ions};
-ghost use Rattle.judge.specs.Agreement.{phAgrees, agreesBy, readingAgrees, ionAgrees, agrees};
+ghost use Rattle.judge.specs.Agreement.{phAgrees, agreesBy, agrees};
+ghost use Rattle.judge.specs.Holding.{Holds, Small, agreesIf, ionHeldAgrees};
 
-pub fn agrees(a: &[u32], b: &[u32]) -> bool
-    requires { ⌜ (length (now a) ≡ recordWords) × (length (now b) ≡ recordWords) ⌝ }
+pub fn agrees(a: &[u32], b: &[u32], first: Held, second: Held) -> bool
+    requires { ⌜ (length (now a) ≡ recordWords) × (length (now b) ≡ recordWords) × Holds (now a) first × Holds (now b) second ⌝ }
     ensures { λ r. ⌜ r ≡ agrees (now (a .entry)) (now (b .entry)) ⌝ }
 {
     if !ph_agrees(a[record::PH], b[record::PH]) {
@@ -26,7 +26,7 @@ pub fn agrees(a: &[u32], b: &[u32]) -> bool
     if !agrees_by(a[record::ALKALINITY] as u64, b[record::ALKALINITY] as u64) {
         return false;
     }
-    ions_agree(a, b)
+    ions_agree(first, second)
 }
 
 fn ph_agrees(p: u32, q: u32) -> bool
@@ -49,15 +49,13 @@ fn agrees_by(x: u64, y: u64) -> bool
     10 * (x - y) <= x
 }
 
-fn ions_agree(a: &[u32], b: &[u32]) -> bool
-    requires { ⌜ (length (now a) ≡ recordWords) × (length (now b) ≡ recordWords) ⌝ }
-    ensures { λ r. ⌜ r ≡ allBelow (ionAgrees (now (a .entry)) (now (b .entry))) ions ⌝ }
+fn ions_agree(a: Held, b: Held) -> bool
+    requires { ⌜ Small a × Small b ⌝ }
+    ensures { λ r. ⌜ r ≡ allBelow (ionHeldAgrees a b) ions ⌝ }
 {
     let mut i: usize = 0;
     while i < ions::IONS {
-        let r = record::reading_at(a, i);
-        let q = record::reading_at(b, i);
-        if !readings_agree(r, q) {
+        if !readings_agree(a.there[i], a.masses[i], b.there[i], b.masses[i]) {
             return false;
         }
         i += 1;
@@ -65,15 +63,16 @@ fn ions_agree(a: &[u32], b: &[u32]) -> bool
     true
 }
 
-// Missing agrees only with missing.
-fn readings_agree(r: Reading, q: Reading) -> bool
-    ensures { λ b. ⌜ b ≡ readingAgrees r q ⌝ }
+// Two readings, each by whether it is there and its amount. Missing agrees only with missing.
+fn readings_agree(first: bool, x: u64, second: bool, y: u64) -> bool
+    requires { ⌜ (x ≤ 200_000) × (y ≤ 200_000) ⌝ }
+    ensures { λ r. ⌜ r ≡ agreesIf first x second y ⌝ }
 {
-    if !amounts::is_present(r) {
-        return !amounts::is_present(q);
+    if !first {
+        return !second;
     }
-    if !amounts::is_present(q) {
+    if !second {
         return false;
     }
-    agrees_by(amounts::mass(r).0, amounts::mass(q).0)
+    agrees_by(x, y)
 }

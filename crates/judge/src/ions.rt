@@ -2,14 +2,12 @@
 // a mass into a charge and a charge into a conductivity, and only like is added to like.
 use crate::Charge;
 use crate::Conductivity;
-use crate::amounts;
-use crate::record;
+use crate::record::Held;
 use reading::Mass;
 ghost use mathlib.Core.Path.{_≡_};
 ghost use Prim.Native.Nat.{_+_, _*_, _^_, _≤_, _<_};
-ghost use lib.ListN.{length};
-ghost use Rattle.judge.specs.Record.{recordWords};
 ghost use Rattle.judge.specs.Ions.{ions, cationCharge, anionCharge, conductance, alkalinityCharge, alkalinityConductance, hydrogenConductance};
+ghost use Rattle.judge.specs.Holding.{massHeld, Small};
 ghost use Rattle.judge.specs.Sums.{IonSums};
 
 // NH4-N, Ca, Mg, Na, K, SO4-S, NO3-N, Cl: the places of the readings.
@@ -90,16 +88,16 @@ fn ion_conductivity(ion: usize, q: Charge) -> Conductivity
 }
 
 // The sums of the eight ions of a record.
-pub fn sums_of(words: &[u32]) -> Sums
-    requires { ⌜ length (now words) ≡ recordWords ⌝ }
-    ensures { λ r. ⌜ IonSums (now (words .entry)) r ⌝ }
+pub fn sums_of(held: Held) -> Sums
+    requires { ⌜ Small held ⌝ }
+    ensures { λ r. ⌜ IonSums (massHeld held) r ⌝ }
 {
     let mut cations = Charge(0);
     let mut anions = Charge(0);
     let mut conductivity = Conductivity(0);
     let mut i: usize = 0;
     while i < IONS {
-        let m = amounts::mass(record::reading_at(words, i));
+        let m = Mass(held.masses[i]);
         let cation = cation_charge(i, m);
         let anion = anion_charge(i, m);
         cations = cations.plus(cation);

@@ -84,8 +84,10 @@ pub fn judge(words: &[u32]) -> Judgement
     ensures answer { λ r. ⌜ judgementOutcome r ≡ judgementOf (now (words .entry)) ⌝ }
     ensures truth { λ r. ⌜ ((v : Four) → judgementOutcome r ≡ given v → Truth (now (words .entry)) v) ⌝ }
 {
-    match record::test(words) {
-        Tested::Accepted(floor) => Judgement::Judged(checks::verdicts(words, floor)),
+    let own = record::test(words);
+    let tested = own.tested;
+    match tested {
+        Tested::Accepted(floor) => Judgement::Judged(checks::verdicts(words, floor, own.held)),
         Tested::Refused(why) => Judgement::Refused(why),
     }
 }
@@ -94,13 +96,17 @@ pub fn judge(words: &[u32]) -> Judgement
 pub fn agree(first: &[u32], second: &[u32]) -> Agreement
     ensures { λ r. ⌜ agreementOutcome r ≡ agreementOf (now (first .entry)) (now (second .entry)) ⌝ }
 {
-    if let Tested::Refused(why) = record::test(first) {
+    let one = record::test(first);
+    let tested = one.tested;
+    if let Tested::Refused(why) = tested {
         return Agreement::Refused(why);
     }
-    if let Tested::Refused(why) = record::test(second) {
+    let other = record::test(second);
+    let tested = other.tested;
+    if let Tested::Refused(why) = tested {
         return Agreement::Refused(why);
     }
-    if comparison::agrees(first, second) {
+    if comparison::agrees(first, second, one.held, other.held) {
         Agreement::Agree
     } else {
         Agreement::Differ

@@ -2,46 +2,38 @@
 use crate::Verdict;
 use crate::amounts;
 use crate::ions;
-use crate::record;
+use crate::record::Held;
 use crate::window;
 use crate::window::Fraction;
 use crate::window::Span;
 use crate::window::Window;
 use reading::Mass;
-use reading::Reading;
 ghost use mathlib.Core.Path.{_≡_};
-ghost use Prim.Native.Nat.{_+_, _≤_};
-ghost use lib.ListN.{length};
-ghost use Rattle.judge.specs.Record.{recordWords, present, massOf};
+ghost use Prim.Native.Nat.{_≤_};
 ghost use Rattle.judge.specs.Verdicts.{verdictNumber};
 ghost use Rattle.judge.specs.Corners.{decided};
-ghost use Rattle.judge.specs.Ratios.{nitrogenWindow, nitrogenBy, nitrogenOf};
+ghost use Rattle.judge.specs.Ratios.{nitrogenWindow};
+ghost use Rattle.judge.specs.Holding.{Small, nitrogenHeld};
 
 // The check of a record.
-pub fn of_record(words: &[u32]) -> Verdict
-    requires { ⌜ length (now words) ≡ recordWords ⌝ }
-    ensures { λ r. ⌜ verdictNumber r ≡ nitrogenOf (now (words .entry)) ⌝ }
+pub fn of_record(held: Held) -> Verdict
+    requires { ⌜ Small held ⌝ }
+    ensures { λ r. ⌜ verdictNumber r ≡ nitrogenHeld held ⌝ }
 {
-    let total = record::reading_at(words, ions::TOTAL_NITROGEN);
-    let nitrate = record::reading_at(words, ions::NITRATE);
-    let ammonium = record::reading_at(words, ions::AMMONIUM);
-    of_readings(total, nitrate, ammonium)
-}
-
-fn of_readings(total: Reading, nitrate: Reading, ammonium: Reading) -> Verdict
-    ensures { λ r. ⌜ verdictNumber r ≡ nitrogenBy (present total) (present nitrate) (present ammonium) (massOf nitrate + massOf ammonium) (massOf total) ⌝ }
-{
-    if !amounts::is_present(total) {
+    if !held.there[ions::TOTAL_NITROGEN] {
         return Verdict::NotApplicable;
     }
-    if !amounts::is_present(nitrate) {
+    if !held.there[ions::NITRATE] {
         return Verdict::Missing;
     }
-    if !amounts::is_present(ammonium) {
+    if !held.there[ions::AMMONIUM] {
         return Verdict::Missing;
     }
-    let mineral = amounts::plus(amounts::mass(nitrate), amounts::mass(ammonium));
-    verdict(mineral, amounts::mass(total))
+    let total = held.masses[ions::TOTAL_NITROGEN];
+    let nitrate = held.masses[ions::NITRATE];
+    let ammonium = held.masses[ions::AMMONIUM];
+    let mineral = amounts::plus(Mass(nitrate), Mass(ammonium));
+    verdict(mineral, Mass(total))
 }
 
 // At most all of it.

@@ -1,54 +1,42 @@
 // The sodium/chloride ratio.
 use crate::Charge;
 use crate::Verdict;
-use crate::amounts;
 use crate::ions;
-use crate::record;
+use crate::record::Held;
 use crate::window;
 use crate::window::Fraction;
 use crate::window::Span;
 use crate::window::Window;
-use reading::Reading;
+use reading::Mass;
 ghost use mathlib.Core.Path.{_≡_};
-ghost use Prim.Native.Nat.{_*_, _≤_};
-ghost use lib.ListN.{length};
-ghost use Rattle.judge.specs.Record.{recordWords, present, massOf};
-ghost use Rattle.judge.specs.Ions.{sodium, chloride, cationCharge, anionCharge};
+ghost use Prim.Native.Nat.{_≤_};
 ghost use Rattle.judge.specs.Verdicts.{verdictNumber};
 ghost use Rattle.judge.specs.Corners.{decided};
-ghost use Rattle.judge.specs.Ratios.{sodiumChlorideWindow, sodiumChlorideBy, sodiumChlorideOf};
+ghost use Rattle.judge.specs.Ratios.{sodiumChlorideWindow};
+ghost use Rattle.judge.specs.Holding.{Small, ratioHeld};
 
-// The check of a record.
-pub fn of_record(words: &[u32]) -> Verdict
-    requires { ⌜ length (now words) ≡ recordWords ⌝ }
-    ensures { λ r. ⌜ verdictNumber r ≡ sodiumChlorideOf (now (words .entry)) ⌝ }
-{
-    let sodium = record::reading_at(words, ions::SODIUM);
-    let chloride = record::reading_at(words, ions::CHLORIDE);
-    of_readings(words[record::KIND], sodium, chloride)
-}
-
-// A chloride of amount 0 leaves no ratio, whatever sodium is.
-fn of_readings(kind: u32, na: Reading, cl: Reading) -> Verdict
-    ensures { λ r. ⌜ verdictNumber r ≡ sodiumChlorideBy kind (present cl) (massOf cl) (present na) (cationCharge sodium * massOf na) (anionCharge chloride * massOf cl) ⌝ }
+// The check of a record of that kind. A chloride of amount 0 leaves no ratio, whatever sodium is.
+pub fn of_record(kind: u32, held: Held) -> Verdict
+    requires { ⌜ Small held ⌝ }
+    ensures { λ r. ⌜ verdictNumber r ≡ ratioHeld kind held ⌝ }
 {
     if kind > 4 {
         return Verdict::NotApplicable;
     }
-    if !amounts::is_present(cl) {
+    if !held.there[ions::CHLORIDE] {
         return Verdict::Missing;
     }
-    let chloride = amounts::mass(cl);
-    if chloride.0 == 0 {
+    let chloride = held.masses[ions::CHLORIDE];
+    if chloride == 0 {
         return Verdict::NotApplicable;
     }
-    if !amounts::is_present(na) {
+    if !held.there[ions::SODIUM] {
         return Verdict::Missing;
     }
-    let sodium = amounts::mass(na);
+    let sodium = held.masses[ions::SODIUM];
     verdict(
-        ions::cation_charge(ions::SODIUM, sodium),
-        ions::anion_charge(ions::CHLORIDE, chloride),
+        ions::cation_charge(ions::SODIUM, Mass(sodium)),
+        ions::anion_charge(ions::CHLORIDE, Mass(chloride)),
     )
 }
 

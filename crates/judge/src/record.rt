@@ -1,6 +1,7 @@
 // The fields of a record (document 01, 'A record'), read by index, and the record's own tests, 1 to 7 in that order.
 use crate::NUMBER;
 use crate::WORDS;
+use crate::amounts;
 use hydrogen::FloorResult;
 use reading::Reading;
 use reading::ReadingResult;
@@ -8,11 +9,13 @@ use refusal::Refusal;
 ghost use mathlib.Core.Path.{_≡_};
 ghost use Prim.Native.Nat.{_<_};
 ghost use lib.ListN.{length};
-ghost use Rattle.refusal.specs.Outcome.Outcome.{given};
+ghost use Rattle.refusal.specs.Outcome.Outcome.{given, refused};
+ghost use Rattle.refusal.specs.Numbers.{numberOf};
 ghost use Rattle.reading.specs.Answers.{readingOutcome};
 ghost use Rattle.hydrogen.specs.Floors.{floorAt};
-ghost use Rattle.judge.specs.Record.{recordWords, readings, phOf, readAt, isGiven, allBelow, between, accepted, acceptedRest, readingAt};
+ghost use Rattle.judge.specs.Record.{recordWords, readings, phOf, readAt, between, accepted, acceptedRest, readingAt};
 ghost use Rattle.judge.specs.Tested.{testedOutcome};
+ghost use Rattle.judge.specs.Holding.{TestedTo, readingsTest};
 
 pub const KIND: usize = 1;
 
@@ -32,40 +35,84 @@ pub enum Tested {
     Refused(Refusal),
 }
 
+// The ten readings by value: the amount of each in µg/L, 0 where it is missing, and whether it is there.
+pub struct Held {
+    pub masses: [u64; READINGS],
+    pub there: [bool; READINGS],
+}
+
+// How the tests ended, and the readings of a record that they accept, so that each is read once.
+pub struct TestedRecord {
+    pub tested: Tested,
+    pub held: Held,
+}
+
 // Tests 1 to 4, and then the rest.
-pub fn test(words: &[u32]) -> Tested
-    ensures { λ r. ⌜ testedOutcome r ≡ accepted (now (words .entry)) (given (floorAt (phOf (now (words .entry))))) ⌝ }
+pub fn test(words: &[u32]) -> TestedRecord
+    ensures { λ r. ⌜ TestedTo (now (words .entry)) r (accepted (now (words .entry)) (given (floorAt (phOf (now (words .entry)))))) ⌝ }
 {
     if words.len() != WORDS {
-        return Tested::Refused(Refusal::RecordLength);
+        return refused(Refusal::RecordLength);
     }
     if !in_range(1, 999999, words[NUMBER]) {
-        return Tested::Refused(Refusal::SampleNumber);
+        return refused(Refusal::SampleNumber);
     }
     if !in_range(1, 6, words[KIND]) {
-        return Tested::Refused(Refusal::Kind);
+        return refused(Refusal::Kind);
     }
     match hydrogen::floor_at(words[PH]) {
         FloorResult::Given(floor) => test_rest(words, floor),
-        FloorResult::Refused(why) => Tested::Refused(why),
+        FloorResult::Refused(why) => refused(why),
     }
 }
 
 // Tests 5 to 7.
-fn test_rest(words: &[u32], floor: u64) -> Tested
+fn test_rest(words: &[u32], floor: u64) -> TestedRecord
     requires { ⌜ length (now words) ≡ recordWords ⌝ }
-    ensures { λ r. ⌜ testedOutcome r ≡ acceptedRest (now (words .entry)) (given floor) ⌝ }
+    ensures { λ r. ⌜ TestedTo (now (words .entry)) r (acceptedRest (now (words .entry)) (given floor)) ⌝ }
 {
     if !in_range(1, 100000, words[CONDUCTIVITY]) {
-        return Tested::Refused(Refusal::Conductivity);
+        return refused(Refusal::Conductivity);
     }
     if !in_range(0, 200000, words[ALKALINITY]) {
-        return Tested::Refused(Refusal::Alkalinity);
+        return refused(Refusal::Alkalinity);
     }
-    if !all_readings(words) {
-        return Tested::Refused(Refusal::Reading);
+    read_all(words, floor)
+}
+
+// Test 7: reads the readings, and holds them.
+fn read_all(words: &[u32], floor: u64) -> TestedRecord
+    requires { ⌜ length (now words) ≡ recordWords ⌝ }
+    ensures { λ r. ⌜ TestedTo (now (words .entry)) r (readingsTest (now (words .entry)) (given floor)) ⌝ }
+{
+    let mut masses = [0u64; READINGS];
+    let mut there = [false; READINGS];
+    let mut i: usize = 0;
+    while i < READINGS {
+        let r = match read_at(words, i) {
+            ReadingResult::Given(r) => r,
+            ReadingResult::Refused(_) => return refused(Refusal::Reading),
+        };
+        masses[i] = amounts::mass(r).0;
+        there[i] = amounts::is_present(r);
+        i += 1;
     }
-    Tested::Accepted(floor)
+    TestedRecord {
+        tested: Tested::Accepted(floor),
+        held: Held { masses, there },
+    }
+}
+
+fn refused(why: Refusal) -> TestedRecord
+    ensures { λ r. ⌜ testedOutcome (r .tested) ≡ refused (numberOf why) ⌝ }
+{
+    TestedRecord {
+        tested: Tested::Refused(why),
+        held: Held {
+            masses: [0u64; READINGS],
+            there: [false; READINGS],
+        },
+    }
 }
 
 pub fn in_range(least: u32, most: u32, x: u32) -> bool
@@ -75,30 +122,6 @@ pub fn in_range(least: u32, most: u32, x: u32) -> bool
         return false;
     }
     x <= most
-}
-
-fn all_readings(words: &[u32]) -> bool
-    requires { ⌜ length (now words) ≡ recordWords ⌝ }
-    ensures { λ r. ⌜ r ≡ allBelow (λ i. isGiven (readAt (now (words .entry)) i)) readings ⌝ }
-{
-    let mut i: usize = 0;
-    while i < READINGS {
-        if !is_reading(words, i) {
-            return false;
-        }
-        i += 1;
-    }
-    true
-}
-
-fn is_reading(words: &[u32], i: usize) -> bool
-    requires { ⌜ (length (now words) ≡ recordWords) × (i < readings) ⌝ }
-    ensures { λ r. ⌜ r ≡ isGiven (readAt (now (words .entry)) i) ⌝ }
-{
-    match read_at(words, i) {
-        ReadingResult::Given(_) => true,
-        ReadingResult::Refused(_) => false,
-    }
 }
 
 // Reading i of an accepted record, as its enum by value.

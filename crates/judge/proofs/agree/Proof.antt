@@ -5,7 +5,7 @@ use Prim.Native.Nat.{ℕ}
 use Rattle.refusal.specs.Outcome.Outcome.{given}
 use Rattle.judge.specs.Agreement.{agrees, agreementOf}
 use Rattle.judge.proofs.AcceptedLaws.{Valid, valid-accepted}
-use Rattle.judge.proofs.TestedLaws.{tested-valid, tested-refused}
+use Rattle.judge.proofs.TestedLaws.{tested-valid, tested-holds, tested-refused}
 use borrow.Author.Needs.{needs}
 use Rattle.judge.proofs.agree.Statement.{statement}
 use Rattle.judge.proofs.agree.Tie as tie
@@ -17,12 +17,12 @@ answered v w = sym (valid-accepted _ _ v ∙ valid-accepted _ _ w)
 test-requires : tie.Need-test-requires
 test-requires c κs = search needs
 
-enum-known-why : tie.Need-enum-known-why
-enum-known-why c = search needs
+enum-known-tested : tie.Need-enum-known-tested
+enum-known-tested c = search needs
 
 returns : tie.Need-returns
 unfolding agreementOf
-returns c = tested-refused _ _ (c .before .before .before .test .ensures) (c .before .why .given .1) _
+returns c = tested-refused _ _ (c .before .before .before .test .ensures) (c .before .tested .given .1) _
 
 enum-told : tie.Need-enum-told
 enum-told c = search needs
@@ -30,8 +30,8 @@ enum-told c = search needs
 test-requires-2 : tie.Need-test-requires-2
 test-requires-2 c κs = search needs
 
-enum-known-why-2 : tie.Need-enum-known-why-2
-enum-known-why-2 c = search needs
+enum-known-tested-2 : tie.Need-enum-known-tested-2
+enum-known-tested-2 c = search needs
 
 returns-2 : tie.Need-returns-2
 unfolding agreementOf
@@ -39,7 +39,7 @@ returns-2 c =
     let second = c .before .before .before in
     let first = second .before in
     let v = tested-valid _ _ (first .before .before .test .ensures) (first .enum-told .given .1) .0 in
-    tested-refused _ _ (second .test2 .ensures) (c .before .why2 .given .1) _ ∙ sym (valid-accepted _ _ v)
+    tested-refused _ _ (second .test2 .ensures) (c .before .tested2 .given .1) _ ∙ sym (valid-accepted _ _ v)
 
 enum-told-2 : tie.Need-enum-told-2
 enum-told-2 c = search needs
@@ -48,9 +48,11 @@ agrees-requires : tie.Need-agrees-requires
 agrees-requires c κs =
     let second = c .before .before in
     let first = second .before in
-    let v = tested-valid _ _ (first .before .before .test .ensures) (first .enum-told .given .1) .0 in
-    let w = tested-valid _ _ (second .test2 .ensures) (c .enum-told2 .given .1) .0 in
-    (v .words, w .words)
+    let one = first .before .before .test .ensures in
+    let is = first .enum-told .given .1 in
+    let other = second .test2 .ensures in
+    let is′ = c .enum-told2 .given .1 in
+    (tested-valid _ _ one is .0 .words, tested-valid _ _ other is′ .0 .words, tested-holds _ _ one is, tested-holds _ _ other is′)
 
 returns-3 : tie.Need-returns-3
 returns-3 c =
@@ -75,11 +77,11 @@ agree-spec =
     tie.close
     (tie.spec
     test-requires
-    enum-known-why
+    enum-known-tested
     returns
     enum-told
     test-requires-2
-    enum-known-why-2
+    enum-known-tested-2
     returns-2
     enum-told-2
     agrees-requires

@@ -4,7 +4,7 @@ use denote.Ref.{now}
 use borrow.Author.Needs.{needs}
 use Rattle.refusal.specs.Outcome.Outcome.{given}
 use Rattle.judge.specs.Judgements.{verdictsOf, judgementOf}
-use Rattle.judge.proofs.TestedLaws.{tested-valid, tested-refused}
+use Rattle.judge.proofs.TestedLaws.{tested-valid, tested-holds, tested-refused}
 use Rattle.judge.proofs.JudgeLaws.{accepted-floor, judged, told}
 use Rattle.judge.proofs.judge.Statement.{statement}
 use Rattle.judge.proofs.judge.Tie as tie
@@ -12,21 +12,22 @@ use Rattle.judge.proofs.judge.Tie as tie
 test-requires : tie.Need-test-requires
 test-requires c κs = search needs
 
-enum-known-floor : tie.Need-enum-known-floor
-enum-known-floor c = search needs
+enum-known-tested : tie.Need-enum-known-tested
+enum-known-tested c = search needs
 
 verdicts-requires : tie.Need-verdicts-requires
 verdicts-requires c κs =
-    let w = tested-valid _ _ (c .before .before .before .test .ensures) (c .before .floor .given .1) in
-    accepted-floor (now (c .before .before .before .before .before .args .words)) (w .0) (w .1)
+    let t = c .before .before .before in
+    let w = tested-valid _ _ (t .test .ensures) (c .before .tested .given .1) in
+    (accepted-floor (now (t .before .before .args .words)) (w .0) (w .1), tested-holds _ _ (t .test .ensures) (c .before .tested .given .1))
 
-enum-known-why : tie.Need-enum-known-why
-enum-known-why c = search needs
+enum-known-tested-2 : tie.Need-enum-known-tested-2
+enum-known-tested-2 c = search needs
 
 returns : tie.Need-returns
 returns c =
     let s = now (c .before .before .before .before .before .before .args .words) in
-    let w = tested-valid _ _ (c .before .before .before .before .test .ensures) (c .before .before .floor .given .1) in
+    let w = tested-valid _ _ (c .before .before .before .before .test .ensures) (c .before .before .tested .given .1) in
     let e = ap given (c .verdicts .ensures) ∙ sym (judged s (w .0)) in
     (e, λ v h. told s v (sym e ∙ h))
 
@@ -34,7 +35,7 @@ returns-2 : tie.Need-returns-2
 unfolding judgementOf
 returns-2 c =
     let s = now (c .before .before .before .before .before .args .words) in
-    let e = tested-refused _ _ (c .before .before .before .test .ensures) (c .before .why .given .1) (given (verdictsOf s)) in
+    let e = tested-refused _ _ (c .before .before .before .test .ensures) (c .before .tested2 .given .1) (given (verdictsOf s)) in
     (e, λ v h. told s v (sym e ∙ h))
 
 pub judge-spec : {M : Type 1} → statement M
@@ -42,8 +43,8 @@ judge-spec =
     tie.close
     (tie.spec
     test-requires
-    enum-known-floor
+    enum-known-tested
     verdicts-requires
-    enum-known-why
+    enum-known-tested-2
     returns
     returns-2)

@@ -1,18 +1,36 @@
--- The lent part is the seven; they rise, or else they fall.
+-- The lent part is the seven; its first two values leave one course that all can keep to.
 use mathlib.Core.Path.{sym, _∙_}
 use Rattle.chart.specs.declared.rules.Course.the-variants.{Rising, Falling}
 use Rattle.chart.specs.Rules.{ordered, sevenInOrder}
-use Rattle.chart.proofs.SevenLaws.{too-early, by-first, by-second}
+use Rattle.chart.proofs.SevenLaws.{too-early, by-first, by-second, not-rising, not-falling}
 use borrow.Author.Needs.{needs}
 use Rattle.chart.proofs.rules.seven_in_order.Statement.{statement}
 use Rattle.chart.proofs.rules.seven_in_order.Tie as tie
 
 returns : tie.Need-returns
 unfolding sevenInOrder
-returns c = too-early (ordered Rising) (ordered Falling) _ _ (c .if1 .taken)
+returns c = too-early _ _ (ordered Rising) (ordered Falling) (c .if1 .taken)
 
 add-end : tie.Need-add-end
 add-end c = search needs
+
+mul-in-step : tie.Need-mul-in-step
+mul-in-step c = search needs
+
+shared-slice-read-in-step : tie.Need-shared-slice-read-in-step
+shared-slice-read-in-step c = search needs
+
+add-in-step : tie.Need-add-in-step
+add-in-step c = search needs
+
+mul-in-step-2 : tie.Need-mul-in-step-2
+mul-in-step-2 c = search needs
+
+shared-slice-read-in-step-2 : tie.Need-shared-slice-read-in-step-2
+shared-slice-read-in-step-2 c = search needs
+
+in-step-requires : tie.Need-in-step-requires
+in-step-requires c κs = search needs
 
 mul-ordered : tie.Need-mul-ordered
 mul-ordered c = search needs
@@ -32,8 +50,11 @@ ordered-requires c κs = search needs
 returns-2 : tie.Need-returns-2
 unfolding sevenInOrder
 returns-2 c =
-    let rising = c .before in
-    by-first (ordered Rising) (ordered Falling) _ _ (rising .before .before .if1 .left) (sym (rising .ordered .ensures) ∙ c .if2 .taken)
+    let course = c .before .before in
+    let early = course .before .before .before .before in
+    let rising = sym (course .before .in-step .ensures) ∙ course .if2 .taken in
+    let none = not-falling _ _ (early .if1 .left) (early .before .before .pre) rising in
+    by-first _ _ (ordered Rising) (ordered Falling) (early .if1 .left) (c .ordered .ensures) none
 
 mul-ordered-2 : tie.Need-mul-ordered-2
 mul-ordered-2 c = search needs
@@ -53,10 +74,11 @@ ordered-requires-2 c κs = search needs
 returns-3 : tie.Need-returns-3
 unfolding sevenInOrder
 returns-3 c =
-    let first = c .before .before in
-    let rising = first .before in
-    let not-rising = sym (rising .ordered .ensures) ∙ first .if2 .left in
-    by-second (ordered Rising) (ordered Falling) _ _ (rising .before .before .if1 .left) not-rising (c .ordered2 .ensures)
+    let course = c .before .before in
+    let early = course .before .before .before .before in
+    let level = sym (course .before .in-step .ensures) ∙ course .if2 .left in
+    let none = not-rising _ _ (early .if1 .left) (early .before .before .pre) level in
+    by-second _ _ (ordered Rising) (ordered Falling) (early .if1 .left) none (c .ordered2 .ensures)
 
 pub seven-in-order-spec : {M : Type 1} → statement M
 seven-in-order-spec =
@@ -64,6 +86,12 @@ seven-in-order-spec =
     (tie.spec
     returns
     add-end
+    mul-in-step
+    shared-slice-read-in-step
+    add-in-step
+    mul-in-step-2
+    shared-slice-read-in-step-2
+    in-step-requires
     mul-ordered
     sub-ordered
     part-ordered-start

@@ -1,11 +1,11 @@
--- The lent part is the seven; all are above the mean, or else all are below.
+-- The lent part is the seven; its first value leaves one side that all can be on.
 use mathlib.Core.Path.{sym, _∙_}
 use Rattle.chart.specs.declared.deviations.Side.the-variants.{Above, Below}
 use Rattle.chart.specs.Setups.{onSide}
 use Rattle.chart.specs.Rules.{every, sevenOnOneSide}
 use Rattle.chart.specs.Room.{termsOf}
-use Rattle.chart.proofs.RoomLaws.{part-room}
-use Rattle.chart.proofs.SevenLaws.{too-early, by-first, by-second}
+use Rattle.chart.proofs.RoomLaws.{room-at, part-room}
+use Rattle.chart.proofs.SevenLaws.{too-early, by-first, by-second, none-above, none-below}
 use borrow.Author.Needs.{needs}
 use Rattle.chart.proofs.rules.seven_on_one_side.Statement.{statement}
 use Rattle.chart.proofs.rules.seven_on_one_side.Tie as tie
@@ -14,10 +14,21 @@ returns : tie.Need-returns
 unfolding sevenOnOneSide
 returns c =
     let f = termsOf (c .before .before .args .setup) in
-    too-early (every (onSide f Above)) (every (onSide f Below)) _ _ (c .if1 .taken)
+    too-early _ _ (every (onSide f Above)) (every (onSide f Below)) (c .if1 .taken)
 
 add-end : tie.Need-add-end
 add-end c = search needs
+
+mul-on-side : tie.Need-mul-on-side
+mul-on-side c = search needs
+
+shared-slice-read-on-side : tie.Need-shared-slice-read-on-side
+shared-slice-read-on-side c = search needs
+
+on-side-requires : tie.Need-on-side-requires
+on-side-requires c κs =
+    let S = c .before .before .before in
+    (S .pre .0, room-at (S .args .later .now) _ (S .pre .1 .1))
 
 mul-all-on : tie.Need-mul-all-on
 mul-all-on c = search needs
@@ -33,16 +44,19 @@ part-all-on-end c = search needs
 
 all-on-requires : tie.Need-all-on-requires
 all-on-requires c κs =
-    let S = c .before .before .before in
+    let S = c .before .before .before .before .before .before in
     (S .pre .0, part-room (S .args .later .now) (S .args .i) (S .pre .1 .1))
 
 returns-2 : tie.Need-returns-2
 unfolding sevenOnOneSide
 returns-2 c =
-    let above = c .before in
-    let early = above .before .before in
-    let f = termsOf (early .before .before .args .setup) in
-    by-first (every (onSide f Above)) (every (onSide f Below)) _ _ (early .if1 .left) (sym (above .all-on .ensures) ∙ c .if2 .taken)
+    let side = c .before .before in
+    let early = side .before .before .before in
+    let S = early .before .before in
+    let f = termsOf (S .args .setup) in
+    let above = sym (side .before .on-side .ensures) ∙ side .if2 .taken in
+    let none = none-below _ _ (early .if1 .left) (S .pre .1 .0) f above in
+    by-first _ _ (every (onSide f Above)) (every (onSide f Below)) (early .if1 .left) (c .all-on .ensures) none
 
 mul-all-on-2 : tie.Need-mul-all-on-2
 mul-all-on-2 c = search needs
@@ -64,12 +78,13 @@ all-on-requires-2 c κs =
 returns-3 : tie.Need-returns-3
 unfolding sevenOnOneSide
 returns-3 c =
-    let first = c .before .before in
-    let above = first .before in
-    let early = above .before .before in
-    let f = termsOf (early .before .before .args .setup) in
-    let not-above = sym (above .all-on .ensures) ∙ first .if2 .left in
-    by-second (every (onSide f Above)) (every (onSide f Below)) _ _ (early .if1 .left) not-above (c .all-on2 .ensures)
+    let side = c .before .before in
+    let early = side .before .before .before in
+    let S = early .before .before in
+    let f = termsOf (S .args .setup) in
+    let not-above = sym (side .before .on-side .ensures) ∙ side .if2 .left in
+    let none = none-above _ _ (early .if1 .left) (S .pre .1 .0) f not-above in
+    by-second _ _ (every (onSide f Above)) (every (onSide f Below)) (early .if1 .left) none (c .all-on2 .ensures)
 
 pub seven-on-one-side-spec : {M : Type 1} → statement M
 seven-on-one-side-spec =
@@ -77,6 +92,9 @@ seven-on-one-side-spec =
     (tie.spec
     returns
     add-end
+    mul-on-side
+    shared-slice-read-on-side
+    on-side-requires
     mul-all-on
     sub-all-on
     part-all-on-start

@@ -1,7 +1,10 @@
 -- Each return is what the definition picks by the tests that led there; a word of a record is below 2^32.
+use mathlib.Core.Path.{_∙_}
 use native.Mathlib.Omega.{arith}
+use denote.Ref.{now}
 use Rattle.judge.specs.Agreement.{agrees}
 use Rattle.refusal.proofs.Testing.{failed, passed}
+use Rattle.judge.proofs.HeldLaws.{held-small, held-agrees}
 use borrow.Author.Needs.{needs}
 use Rattle.judge.proofs.comparison.agrees.Statement.{statement}
 use Rattle.judge.proofs.comparison.agrees.Tie as tie
@@ -67,7 +70,11 @@ returns-3 c =
     )
 
 ions-agree-requires : tie.Need-ions-agree-requires
-ions-agree-requires c κs = search needs
+ions-agree-requires c κs =
+    let start = c .before .before .before .before .before .before .before .before .before .before .before .before .before .before in
+    let a = start .args in
+    let p = start .pre in
+    (held-small (now (a .a)) (a .first) (p .2), held-small (now (a .b)) (a .second) (p .3))
 
 returns-4 : tie.Need-returns-4
 unfolding agrees
@@ -75,12 +82,15 @@ returns-4 c =
     let alkalinity = c .before in
     let conductivity = alkalinity .before .before .before .before in
     let ph = conductivity .before .before .before .before in
+    let start = ph .before .before .before .before .before .before in
+    let a = start .args in
+    let p = start .pre in
     simp (
       passed (ph .before .ph-agrees .ensures) (ph .if1 .left),
       passed (conductivity .before .agrees-by .ensures) (conductivity .if2 .left),
       passed (alkalinity .before .agrees-by2 .ensures) (alkalinity .if3 .left),
     )
-    (c .ions-agree .ensures)
+    (c .ions-agree .ensures ∙ held-agrees (now (a .a)) (now (a .b)) (a .first) (a .second) (p .2) (p .3))
 
 pub agrees-spec : {M : Type 1} → statement M
 agrees-spec =

@@ -5,7 +5,7 @@ use Prim.Native.Nat.{_-_, _≤_}
 use native.Mathlib.Omega.{arith}
 use Rattle.judge.specs.Record.{allBelow}
 use Rattle.judge.specs.Ions.{ions}
-use Rattle.judge.specs.Agreement.{ionAgrees}
+use Rattle.judge.specs.Holding.{ionHeldAgrees}
 use Rattle.judge.proofs.AllBelow.{all-none, all-more, all-fails}
 use Rattle.refusal.proofs.Testing.{failed, passed}
 use borrow.Author.Needs.{needs}
@@ -13,7 +13,7 @@ use Rattle.judge.proofs.comparison.ions_agree.Statement.{statement}
 use Rattle.judge.proofs.comparison.ions_agree.Tie as tie
 
 abbrev Inv-loop : tie.InvT-loop
-Inv-loop a b i₀ i = (i ≤ ions) × (allBelow (ionAgrees a b) i ≡ true)
+Inv-loop a b i₀ i = (i ≤ ions) × (allBelow (ionHeldAgrees a b) i ≡ true)
 
 abbrev μ-loop : tie.MeasureT-loop
 μ-loop a b i₀ i = ions - i
@@ -21,22 +21,34 @@ abbrev μ-loop : tie.MeasureT-loop
 loop-holds : tie.Need-loop-holds Inv-loop μ-loop
 loop-holds c = (search needs, all-none _)
 
-reading-at-requires : tie.Need-reading-at-requires Inv-loop μ-loop
-reading-at-requires c κs = search needs
+element-copy-out-readings-agree : tie.Need-element-copy-out-readings-agree Inv-loop μ-loop
+element-copy-out-readings-agree c = search needs
 
-reading-at-requires-2 : tie.Need-reading-at-requires-2 Inv-loop μ-loop
-reading-at-requires-2 c κs = search needs
+mul-readings-agree : tie.Need-mul-readings-agree Inv-loop μ-loop
+mul-readings-agree c = search needs
+
+element-copy-out-readings-agree-2 : tie.Need-element-copy-out-readings-agree-2 Inv-loop μ-loop
+element-copy-out-readings-agree-2 c = search needs
+
+element-copy-out-readings-agree-3 : tie.Need-element-copy-out-readings-agree-3 Inv-loop μ-loop
+element-copy-out-readings-agree-3 c = search needs
+
+mul-readings-agree-2 : tie.Need-mul-readings-agree-2 Inv-loop μ-loop
+mul-readings-agree-2 c = search needs
+
+element-copy-out-readings-agree-4 : tie.Need-element-copy-out-readings-agree-4 Inv-loop μ-loop
+element-copy-out-readings-agree-4 c = search needs
 
 readings-agree-requires : tie.Need-readings-agree-requires Inv-loop μ-loop
-readings-agree-requires c κs = search needs
+readings-agree-requires c κs =
+    let at = c .before .before .before .before .before in
+    let p = at .before .pre in
+    (p .0 .most (at .loop .i) (omega arith), p .1 .most (at .loop .i) (omega arith))
 
 returns : tie.Need-returns Inv-loop μ-loop
 returns c =
-    let second = c .before .before in
-    let first = second .before in
-    let turn = first .before in
-    let same = rw (first .reading-at .ensures, second .reading-at2 .ensures) at (c .before .readings-agree .ensures) in
-    sym (all-fails _ (turn .before .loop .i) ions (turn .loop-test .taken) (failed same (c .if1 .taken)))
+    let turn = c .before .before .before .before .before .before in
+    sym (all-fails _ (turn .before .loop .i) ions (turn .loop-test .taken) (failed (c .before .readings-agree .ensures) (c .if1 .taken)))
 
 add-i : tie.Need-add-i Inv-loop μ-loop
 add-i c = search needs
@@ -46,11 +58,8 @@ loop-less c = search needs
 
 loop-again : tie.Need-loop-again Inv-loop μ-loop
 loop-again c =
-    let second = c .before .before in
-    let first = second .before in
-    let at = first .before .before in
-    let same = rw (first .reading-at .ensures, second .reading-at2 .ensures) at (c .before .readings-agree .ensures) in
-    (search needs, all-more _ (at .loop .i) (at .loop .inv .1) (passed same (c .if1 .left)))
+    let at = c .before .before .before .before .before .before .before in
+    (search needs, all-more _ (at .loop .i) (at .loop .inv .1) (passed (c .before .readings-agree .ensures) (c .if1 .left)))
 
 returns-2 : tie.Need-returns-2 Inv-loop μ-loop
 returns-2 c = let e : c .before .loop .i ≡ ions = omega arith in sym (rw e at (c .before .loop .inv .1))
@@ -62,8 +71,12 @@ ions-agree-spec =
     Inv-loop
     μ-loop
     loop-holds
-    reading-at-requires
-    reading-at-requires-2
+    element-copy-out-readings-agree
+    mul-readings-agree
+    element-copy-out-readings-agree-2
+    element-copy-out-readings-agree-3
+    mul-readings-agree-2
+    element-copy-out-readings-agree-4
     readings-agree-requires
     returns
     add-i

@@ -2,43 +2,41 @@
 use mathlib.Core.Path.{_≡_, refl, sym, ap, ap₂, _∙_}
 use Prim.Native.Nat.{ℕ, _+_, _-_, _*_, _≤_}
 use native.Mathlib.Omega.{arith}
-use denote.Ref.{now}
 use borrow.Author.Needs.{needs}
-use Rattle.judge.specs.Record.{massOf}
 use Rattle.judge.specs.Ions.{ions, cationCharge, anionCharge, conductance, conducted, sum}
-use Rattle.judge.specs.Ranges.{massAt}
+use Rattle.judge.specs.Holding.{massHeld}
 use Rattle.judge.proofs.IonLaws.{sum-next, conducts, cations-only, anions-only, conducted-only}
 use Rattle.judge.proofs.ions.sums_of.Statement.{statement}
 use Rattle.judge.proofs.ions.sums_of.Tie as tie
 
 abbrev Inv-loop : tie.InvT-loop
-Inv-loop words cations₀ anions₀ conductivity₀ i₀ cations anions conductivity i =
+Inv-loop held cations₀ anions₀ conductivity₀ i₀ cations anions conductivity i =
     (i ≤ ions)
-    × (cations .0 ≡ sum (λ k. cationCharge k * massAt words k) i)
-    × (anions .0 ≡ sum (λ k. anionCharge k * massAt words k) i)
-    × (conductivity .0 ≡ sum (λ k. conducted k * massAt words k) i)
+    × (cations .0 ≡ sum (λ k. cationCharge k * massHeld held k) i)
+    × (anions .0 ≡ sum (λ k. anionCharge k * massHeld held k) i)
+    × (conductivity .0 ≡ sum (λ k. conducted k * massHeld held k) i)
     × (cations .0 ≤ 20_000_000_000_000 * i)
     × (anions .0 ≤ 20_000_000_000_000 * i)
     × (conductivity .0 ≤ 40_000_000_000_000_000 * i)
 
 abbrev μ-loop : tie.MeasureT-loop
-μ-loop words cations₀ anions₀ conductivity₀ i₀ cations anions conductivity i = ions - i
+μ-loop held cations₀ anions₀ conductivity₀ i₀ cations anions conductivity i = ions - i
 
 loop-holds : tie.Need-loop-holds Inv-loop μ-loop
 unfolding sum
 loop-holds c = (omega arith, refl, refl, refl, omega arith, omega arith, omega arith)
 
-reading-at-requires : tie.Need-reading-at-requires Inv-loop μ-loop
-reading-at-requires c κs = (c .before .before .before .pre, omega arith)
+mul-t11 : tie.Need-mul-t11 Inv-loop μ-loop
+mul-t11 c = search needs
 
-mass-requires : tie.Need-mass-requires Inv-loop μ-loop
-mass-requires c κs = search needs
+element-copy-out-t14 : tie.Need-element-copy-out-t14 Inv-loop μ-loop
+element-copy-out-t14 c = search needs
 
 cation-charge-requires : tie.Need-cation-charge-requires Inv-loop μ-loop
-cation-charge-requires c κs = (omega arith, c .mass .ensures .1)
+cation-charge-requires c κs = (omega arith, c .before .before .before .pre .most (c .before .before .loop .i) (omega arith))
 
 anion-charge-requires : tie.Need-anion-charge-requires Inv-loop μ-loop
-anion-charge-requires c κs = (omega arith, c .before .mass .ensures .1)
+anion-charge-requires c κs = (omega arith, c .before .before .before .before .pre .most (c .before .before .before .loop .i) (omega arith))
 
 plus-requires : tie.Need-plus-requires Inv-loop μ-loop
 plus-requires c κs = omega arith
@@ -63,23 +61,20 @@ loop-less c = omega arith
 
 loop-again : tie.Need-loop-again Inv-loop μ-loop
 loop-again c =
-    let words = c .before .before .before .before .before .before .before .before .before .before .before .before .args .words .now in
-    let at = c .before .before .before .before .before .before .before .before .before .before .loop in
+    let charged = c .before .before .before .before .before in
+    let at = charged .before .before .before .before .loop in
+    let a = massHeld (charged .before .before .before .before .before .args .t1) in
     let i = at .i in
-    let m : c .before .before .before .before .before .before .before .mass .result .0 ≡ massAt words i =
-    c .before .before .before .before .before .before .before .mass .ensures .0 ∙ ap massOf (c .before .before .before .before .before .before .before .before .reading-at .ensures) in
-    let cation : c .before .before .before .before .before .before .cation-charge .result .0 ≡ cationCharge i * massAt words i =
-    c .before .before .before .before .before .before .cation-charge .ensures .0 ∙ ap (λ (x : ℕ). cationCharge i * x) m in
-    let anion : c .before .before .before .before .before .anion-charge .result .0 ≡ anionCharge i * massAt words i =
-    c .before .before .before .before .before .anion-charge .ensures .0 ∙ ap (λ (x : ℕ). anionCharge i * x) m in
-    let both : c .before .before .plus3 .result .0 ≡ cationCharge i * massAt words i + anionCharge i * massAt words i =
+    let cation = charged .before .cation-charge .ensures .0 in
+    let anion = charged .anion-charge .ensures .0 in
+    let both : c .before .before .plus3 .result .0 ≡ cationCharge i * a i + anionCharge i * a i =
     c .before .before .plus3 .ensures ∙ ap₂ (λ (x y : ℕ). x + y) cation anion in
-    let conducting : c .before .ion-conductivity .result .0 ≡ conducted i * massAt words i =
-    c .before .ion-conductivity .ensures .0 ∙ ap (λ (x : ℕ). conductance i * x) both ∙ conducts i (massAt words i) in (
+    let conducting : c .before .ion-conductivity .result .0 ≡ conducted i * a i =
+    c .before .ion-conductivity .ensures .0 ∙ ap (λ (x : ℕ). conductance i * x) both ∙ conducts i (a i) in (
       omega arith,
-      c .before .before .before .before .plus .ensures ∙ ap₂ (λ (x y : ℕ). x + y) (at .inv .1) cation ∙ sym (sum-next (λ k. cationCharge k * massAt words k) i),
-      c .before .before .before .plus2 .ensures ∙ ap₂ (λ (x y : ℕ). x + y) (at .inv .2) anion ∙ sym (sum-next (λ k. anionCharge k * massAt words k) i),
-      c .plus4 .ensures ∙ ap₂ (λ (x y : ℕ). x + y) (at .inv .3) conducting ∙ sym (sum-next (λ k. conducted k * massAt words k) i),
+      c .before .before .before .before .plus .ensures ∙ ap₂ (λ (x y : ℕ). x + y) (at .inv .1) cation ∙ sym (sum-next (λ k. cationCharge k * a k) i),
+      c .before .before .before .plus2 .ensures ∙ ap₂ (λ (x y : ℕ). x + y) (at .inv .2) anion ∙ sym (sum-next (λ k. anionCharge k * a k) i),
+      c .plus4 .ensures ∙ ap₂ (λ (x y : ℕ). x + y) (at .inv .3) conducting ∙ sym (sum-next (λ k. conducted k * a k) i),
       omega arith,
       omega arith,
       omega arith,
@@ -87,13 +82,13 @@ loop-again c =
 
 returns : tie.Need-returns Inv-loop μ-loop
 returns c =
-    let words = now (c .before .before .before .args .words) in
+    let a = massHeld (c .before .before .args .t1) in
     let at = c .before .loop in
     let e : at .i ≡ ions = omega arith in
     record {
-      cations = at .inv .1 ∙ ap (sum (λ k. cationCharge k * massAt words k)) e ∙ sym (cations-only (massAt words));
-      anions = at .inv .2 ∙ ap (sum (λ k. anionCharge k * massAt words k)) e ∙ sym (anions-only (massAt words));
-      conductivity = at .inv .3 ∙ ap (sum (λ k. conducted k * massAt words k)) e ∙ sym (conducted-only (massAt words));
+      cations = at .inv .1 ∙ ap (sum (λ k. cationCharge k * a k)) e ∙ sym (cations-only a);
+      anions = at .inv .2 ∙ ap (sum (λ k. anionCharge k * a k)) e ∙ sym (anions-only a);
+      conductivity = at .inv .3 ∙ ap (sum (λ k. conducted k * a k)) e ∙ sym (conducted-only a);
     }
 
 pub sums-of-spec : {M : Type 1} → statement M
@@ -103,8 +98,8 @@ sums-of-spec =
     Inv-loop
     μ-loop
     loop-holds
-    reading-at-requires
-    mass-requires
+    mul-t11
+    element-copy-out-t14
     cation-charge-requires
     anion-charge-requires
     plus-requires
