@@ -10,11 +10,13 @@ use crate::random::Draw;
 use reference::cases::bottle::Bottle;
 use reference::cases::floats::float_of;
 use reference::cases::generator::Generator;
-use reference::cases::solver::{Bound, End, ENDS};
+use reference::cases::solver::{
+    balance_weights, conducted, sum_conducted, Bound, End, CONDUCTED_BY_ALKALINITY, ENDS,
+};
 use reference::hydrogen::Ph;
 use reference::ions::{
-    ALKALINITY_CONDUCTANCE, ANIONS, CALCIUM, CATIONS, CHLORIDE, HYDROGEN_CONDUCTANCE, IONS,
-    NITRATE, POTASSIUM, SULPHATE, TABLE,
+    ANIONS, CALCIUM, CATIONS, CHLORIDE, HYDROGEN_CONDUCTANCE, IONS, NITRATE, POTASSIUM, SULPHATE,
+    TABLE,
 };
 
 const MOST_AMOUNT: i128 = 200_000;
@@ -124,18 +126,6 @@ fn charges(amounts: &[i128; IONS], ions: std::ops::Range<usize>) -> i128 {
     ions.map(|ion| amounts[ion] * TABLE[ion].factor).sum()
 }
 
-/// In units of 10^4 u the ends are N / divisor with N = weight × An − divisor ×
-/// other cations. With L = 20 the span goes from (9 An − 11 C) / 11 to
-/// (11 An − 9 C) / 9; with L = 10 from (19 An − 21 C) / 21 to (21 An − 19 C) / 19.
-fn balance_weights(tenths: u32, end: End) -> (i128, i128) {
-    match (tenths <= 200, end) {
-        (true, End::Least) => (9, 11),
-        (true, End::Greatest) => (11, 9),
-        (false, End::Least) => (19, 21),
-        (false, End::Greatest) => (21, 19),
-    }
-}
-
 fn balancing(generator: &mut Generator, tenths: u32, end: End, n: i128) -> Option<Ions> {
     let (weight, divisor) = balance_weights(tenths, end);
     let most = generator.pick(&[100, 3_000, 30_000]);
@@ -173,27 +163,8 @@ fn anions_of(generator: &mut Generator, mut amounts: [i128; IONS], anions: i128)
     ions.checked()
 }
 
-/// What one µg/L of an ion adds, in units of 10^4 × 10^−13 µS/cm.
-const fn conducted(ion: usize) -> i128 {
-    TABLE[ion].factor * TABLE[ion].conductance
-}
-
-/// What one tenth of a µeq/L of alkalinity adds, in the same units.
-const CONDUCTED_BY_ALKALINITY: i128 = ALKALINITY_CONDUCTANCE * 10_000;
-
-/// N is (100 ± M) × CM − 100 × R in units of 10^6 × 10^−13 µS/cm, so the parts
-/// R of the ions and of alkalinity must sum up to (100 ± M) × tenths × 10^6 − N.
 fn conducting(generator: &mut Generator, tenths: u32, end: End, n: i128) -> Option<Ions> {
-    let m = match tenths {
-        0..=100 => 30,
-        101..=200 => 20,
-        _ => 10,
-    };
-    let percent = match end {
-        End::Least => 100 - m,
-        End::Greatest => 100 + m,
-    };
-    let sum = percent * i128::from(tenths) * 1_000_000 - n;
+    let sum = sum_conducted(tenths, end, n);
     (0..DRAWS).find_map(|_| ions_conducting(generator, sum))
 }
 

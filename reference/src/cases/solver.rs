@@ -79,7 +79,7 @@ impl Ions {
 /// N = weight × An − other weight × cations, and the other weight is the
 /// divisor, too. With L = 20 the span goes from (9 An − 11 C) / 11 to
 /// (11 An − 9 C) / 9; with L = 10 from (19 An − 21 C) / 21 to (21 An − 19 C) / 19.
-fn balance_weights(tenths: u32, end: End) -> (i128, i128) {
+pub fn balance_weights(tenths: u32, end: End) -> (i128, i128) {
     match (tenths <= 200, end) {
         (true, End::Least) => (9, 11),
         (true, End::Greatest) => (11, 9),
@@ -132,16 +132,16 @@ fn anions_of(generator: &mut Generator, mut amounts: [u32; IONS], anions: i128) 
 }
 
 /// What one µg/L of an ion adds, in units of 10^4 × 10^−13 µS/cm.
-fn conducted(ion: usize) -> i128 {
+pub const fn conducted(ion: usize) -> i128 {
     TABLE[ion].factor * TABLE[ion].conductance
 }
 
 /// What one tenth of a µeq/L of alkalinity adds, in the same units.
-const CONDUCTED_BY_ALKALINITY: i128 = ALKALINITY_CONDUCTANCE * 10_000;
+pub const CONDUCTED_BY_ALKALINITY: i128 = ALKALINITY_CONDUCTANCE * 10_000;
 
-/// N = (100 ± M) × CM / 10^6 − 100 × R / 10^6, so the parts of the ions and of
-/// alkalinity must sum up to (100 ± M) × tenths × 10^6 − N.
-fn conducting_ions(generator: &mut Generator, tenths: u32, end: End, n: i128) -> Option<Ions> {
+/// N is (100 ± M) × CM − 100 × R in units of 10^6 × 10^−13 µS/cm, so the parts
+/// R of the ions and of alkalinity must sum up to (100 ± M) × tenths × 10^6 − N.
+pub fn sum_conducted(tenths: u32, end: End, n: i128) -> i128 {
     let m = match tenths {
         0..=100 => 30,
         101..=200 => 20,
@@ -151,7 +151,11 @@ fn conducting_ions(generator: &mut Generator, tenths: u32, end: End, n: i128) ->
         End::Least => 100 - m,
         End::Greatest => 100 + m,
     };
-    let sum = percent * i128::from(tenths) * 1_000_000 - n;
+    percent * i128::from(tenths) * 1_000_000 - n
+}
+
+fn conducting_ions(generator: &mut Generator, tenths: u32, end: End, n: i128) -> Option<Ions> {
+    let sum = sum_conducted(tenths, end, n);
     (0..20_000).find_map(|_| ions_conducting(generator, sum))
 }
 
