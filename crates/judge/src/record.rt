@@ -124,7 +124,7 @@ pub fn in_range(least: u32, most: u32, x: u32) -> bool
     x <= most
 }
 
-// Reading i of an accepted record, as its enum by value.
+// Reading i of a record, as its enum by value. Words that are no reading count as missing.
 pub fn reading_at(words: &[u32], i: usize) -> Reading
     requires { ⌜ (length (now words) ≡ recordWords) × (i < readings) ⌝ }
     ensures { λ r. ⌜ r ≡ readingAt (now (words .entry)) i ⌝ }
