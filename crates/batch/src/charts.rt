@@ -119,7 +119,7 @@ fn read_values(words: &[u32], element: u32, setup: usize, later: usize) -> Chart
 fn is_new_element(used: &[u32], element: u32) -> bool
     ensures { λ r. ⌜ r ≡ isNewElement (now (used .entry)) element ⌝ }
 {
-    if !judge::is_element(element) {
+    if !record::is_element(element) {
         return false;
     }
     !is_member(element, used)

@@ -58,7 +58,7 @@ fn flagged_by(words: &[u32], element: u32, signal: u32) -> bool
     if signal == 0 {
         return false;
     }
-    judge::has_reading(words, element)
+    record::has_reading(words, element)
 }
 
 // Copies the words of a row into the lent slice, from a place on.

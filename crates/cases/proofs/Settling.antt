@@ -14,12 +14,12 @@ use Rattle.hydrogen.proofs.Laws.{floor-in-range, floor-is}
 use Rattle.reading.specs.Ranges.{inRange, isValue}
 use Rattle.reading.specs.Readings.{missingFrom, measuredFrom, readingOf}
 use Rattle.reading.specs.Amounts.{Amount, nearest, valueMass, valueAmount}
-use Rattle.judge.specs.Record.{phOf, conductivityOf, alkalinityOf, readAt, readingAt, massOf, isGiven, allBelow, accepted, acceptedRest}
+use Rattle.judge.specs.Record.{phOf, conductivityOf, alkalinityOf, readAt, readingAt, massOf, massAt, isGiven, allBelow, accepted, acceptedRest}
 use Rattle.judge.specs.Ions.{cationFactor, anionFactor, conductance, sum}
 use Rattle.judge.specs.Choices.{Ranges}
 use Rattle.judge.specs.Verdicts.{applied}
 use Rattle.judge.specs.Corners.{decided, passesOf}
-use Rattle.judge.specs.Ranges.{massAt, isWhole, ionsKnown}
+use Rattle.judge.specs.Ranges.{isWhole, ionsKnown}
 use Rattle.judge.specs.IonBalance.{balanceApplies, balanceAppliesTo, balanceLimit, balanceCheck}
 use Rattle.judge.specs.Conductivity.{conductivityLimit, conductivityCheck, measuredOf}
 use Rattle.judge.specs.Judgements.{verdictsOf, judgementOf}

@@ -6,9 +6,9 @@ use Prim.Native.Nat.{ℕ, _≤_, _<_}
 use lib.Dec.{eqb, leb}
 use lib.ListN.{getD}
 use borrow.Author.Tests.{eqb-true, leb-true}
-use Rattle.judge.specs.Record.{allBelow}
+use Rattle.record.specs.Record.{allBelow}
 use Rattle.judge.specs.Ions.{ions, cationFactor, anionFactor, conductance}
-use Rattle.judge.proofs.AllBelow.{all-each}
+use Rattle.record.proofs.AllBelow.{all-each}
 use Rattle.refusal.proofs.Testing.{both}
 
 -- x is the definition's entry, and at most `most`

@@ -6,25 +6,10 @@ use native.Mathlib.Nat.{le-trans, mul-le-mul-left, mul-assoc, add-mul}
 use native.Mathlib.Numerals.{add-one}
 use native.Mathlib.Omega.{arith}
 use lib.Dec.{lit≤}
-use Rattle.refusal.specs.Outcome.{Outcome}
-use Rattle.refusal.specs.Outcome.Outcome.{given, refused}
-use Rattle.reading.specs.declared.Reading.{Reading}
-use Rattle.reading.specs.Amounts.{Amount, amountOf}
-use Rattle.reading.proofs.Laws.{amount-laws}
-use Rattle.judge.specs.Record.{readings, massIn, massOf}
+use Rattle.record.proofs.MassLaws.{mass-most}
+use Rattle.record.specs.Record.{readings, mostMass, massAt}
 use Rattle.judge.specs.Ions.{ions, cationFactor, anionFactor, conductance, cationCharge, anionCharge, conducted, sum}
-use Rattle.judge.specs.Ranges.{massAt}
 use Rattle.judge.proofs.SumLaws.{sum-le}
-
--- ---- an amount is at most that of 200 mg/L
-pub mass-most : (r : Reading) → massOf r ≤ 200_000
-unfolding massOf
-mass-most r = go (amountOf r) refl
-  where
-    go : (a : Outcome Amount) → amountOf r ≡ a → massIn a ≤ 200_000
-    go (given Amount.missing) e = lit≤ tt
-    go (given (Amount.mass m)) e = amount-laws .most r m e
-    go (refused n) e = lit≤ tt
 
 -- ---- one more ion
 pub sum-next : (f : ℕ → ℕ) (i : ℕ) → sum f (i + 1) ≡ sum f i + f i
@@ -54,8 +39,8 @@ module _ (a : ℕ → ℕ) where
   conducted-only = ions-only conducted a refl refl
 
 -- ---- the greatest sums
-most : (w : ℕ → ℕ) (s : List ℕ) → sum (λ i. w i * massAt s i) readings ≤ sum (λ i. w i * 200_000) readings
-most w s = sum-le (λ i. w i * massAt s i) (λ i. w i * 200_000) readings (λ i. mul-le-mul-left (w i) (mass-most _))
+most : (w : ℕ → ℕ) (s : List ℕ) → sum (λ i. w i * massAt s i) readings ≤ sum (λ i. w i * mostMass) readings
+most w s = sum-le (λ i. w i * massAt s i) (λ i. w i * mostMass) readings (λ i. mul-le-mul-left (w i) (mass-most _))
 
 module _ (s : List ℕ) where
   pub cations-most : sum (λ i. cationCharge i * massAt s i) readings ≤ 60_000_000_000_000

@@ -3,24 +3,30 @@ use mathlib.Core.Path.{_≡_, subst}
 use mathlib.Core.List.{List}
 use Prim.Native.Nat.{ℕ}
 use Rattle.refusal.specs.Outcome.Outcome.{given}
-use Rattle.hydrogen.specs.Floors.{floorAt}
 use Rattle.hydrogen.proofs.Laws.{floor-most}
-use Rattle.judge.specs.Record.{phOf}
+use Rattle.record.specs.declared.Tested.the-variants as tested
+use Rattle.record.specs.declared.TestedRecord.{TestedRecord}
+use Rattle.record.specs.Record.{phOf}
+use Rattle.record.specs.Tested.{OwnTests}
+use Rattle.record.proofs.TestedLaws.{tested-valid, tested-holds}
 use Rattle.judge.specs.Prepared.{Accepted}
 use Rattle.judge.specs.Judgements.{Four, verdictsOf, judgementOf}
 use Rattle.judge.specs.Truth.{Truth}
-use Rattle.judge.proofs.AcceptedLaws.{Valid, accepted-given, valid-accepted}
+use Rattle.record.proofs.AcceptedLaws.{Valid, accepted-given, valid-accepted}
 use Rattle.judge.proofs.TruthProofs.{truth}
 
 module _ (s : List ℕ) where
-  pub accepted-floor : {floor : ℕ} → Valid s → floor ≡ floorAt (phOf s) → Accepted s floor
-  accepted-floor v e =
+  pub accepted-own : {own : TestedRecord} {floor : ℕ} → OwnTests s own → own .tested ≡ tested.Accepted floor → Accepted s own floor
+  accepted-own t e =
+      let w = tested-valid t e in
+      let v = w .0 in
+      let h = tested-holds t e in
       record {
-        words = v .words;
-        measured = v .measured .1;
-        alkalinity = v .alkalinity;
-        isFloor = e;
-        floorMost = rw e (floor-most (phOf s) (v .ph .0) (v .ph .1));
+        holds = h;
+        measured = rw (h .conductivity) (v .measured .1);
+        alkalinity = rw (h .alkalinity) (v .alkalinity);
+        isFloor = w .1;
+        floorMost = rw (w .1) (floor-most (phOf s) (v .ph .0) (v .ph .1));
       }
 
   pub judged : Valid s → judgementOf s ≡ given (verdictsOf s)

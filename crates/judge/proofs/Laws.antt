@@ -8,12 +8,12 @@ use lib.ListN.{length}
 use Rattle.refusal.specs.Outcome.Outcome.{given}
 use Rattle.judge.specs.declared.Verdict.{Verdict}
 use Rattle.judge.specs.declared.Verdict.the-variants as verdict
-use Rattle.judge.specs.Record.{recordWords, accepted}
+use Rattle.record.specs.Record.{recordWords, accepted}
 use Rattle.judge.specs.Verdicts.{verdictNumber}
 use Rattle.judge.specs.Judgements.{Four, verdictsOf, judgementOf}
 use Rattle.judge.specs.Agreement.{agreementOf, agrees}
 use Rattle.judge.specs.Truth.{Truth}
-use Rattle.judge.proofs.AcceptedLaws.{Valid, accepted-given, valid-accepted}
+use Rattle.record.proofs.AcceptedLaws.{Valid, accepted-given, valid-accepted}
 use Rattle.judge.proofs.MostLaws.{verdicts-most}
 use Rattle.judge.proofs.JudgeLaws as judging
 

@@ -1,12 +1,9 @@
 -- The laws behind this crate's contracts. Other crates cite `AcceptedLaws` and `Laws`, and nothing else of it.
-mod AllBelow
-mod BetweenLaws
 pub mod AcceptedLaws
-mod TestedLaws
 mod Columns
 mod SumLaws
 mod IonLaws
-mod HeldLaws
+mod AnalyteLaws
 mod Crossing
 mod Mixing
 mod Deciding

@@ -3,7 +3,7 @@ use mathlib.Core.Path.{_≡_, refl, ap}
 use mathlib.Core.Logic.{_⊎_, inl, inr}
 use Prim.Native.Nat.{ℕ, _+_, _*_, _≤_}
 use native.Mathlib.Omega.{arith}
-use Rattle.judge.specs.Record.{readings}
+use Rattle.record.specs.Record.{readings}
 use Rattle.judge.specs.Choices.{Ranges, Choice, Among}
 use Rattle.judge.specs.Corners.{Part, partOf, partAt}
 use Rattle.judge.proofs.SumLaws.{sum-over, sum-under, sum-times, sum-mix, sum-same}

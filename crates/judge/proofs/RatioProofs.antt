@@ -6,8 +6,7 @@ use Prim.Native.Nat.{ℕ, _*_, _≤_, _<_}
 use native.Mathlib.Omega.{arith}
 use lib.Dec.{leb, eqb}
 use Rattle.judge.specs.Verdicts.{applied}
-use Rattle.judge.specs.Record.{kindOf, readingAt, present}
-use Rattle.judge.specs.Ranges.{massAt}
+use Rattle.record.specs.Record.{kindOf, readingAt, present, massAt}
 use Rattle.judge.specs.Ions.{ammonium, sodium, nitrate, chloride, totalNitrogen}
 use Rattle.judge.specs.Ratios.{sodiumChlorideWindow, nitrogenWindow, sodiumCharge, chlorideCharge, mineralNitrogen, sodiumChlorideOf, nitrogenOf}
 use Rattle.judge.specs.Truth.{PlainTruth, ratioApplies, ratioKnown, nitrogenApplies, nitrogenKnown}

@@ -9,7 +9,7 @@ use Rattle.refusal.specs.Numbers.{numberOf}
 use Rattle.reading.specs.declared.Reading.{Reading}
 use Rattle.judge.specs.declared.Agreement.{Agreement}
 use Rattle.judge.specs.declared.Agreement.the-variants as agreement
-use Rattle.judge.specs.Record.{phOf, conductivityOf, alkalinityOf, readingAt, present, massOf, allBelow, accepted}
+use Rattle.record.specs.Record.{phOf, conductivityOf, alkalinityOf, readingAt, present, massOf, allBelow, accepted}
 use Rattle.judge.specs.Ions.{ions}
 use Rattle.judge.specs.IonBalance.{apart}
 

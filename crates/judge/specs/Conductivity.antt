@@ -5,14 +5,14 @@ use Prim.Native.Nat.{ℕ, _+_, _-_, _*_, _^_, _≤_}
 use lib.Dec.{leb}
 use lib.IntN.{subℕ}
 use Rattle.judge.specs.declared.window.Window.{Window}
-use Rattle.judge.specs.Record.{conductivityOf, alkalinityOf, readings}
+use Rattle.record.specs.Record.{conductivityOf, alkalinityOf, readings, massAt}
 use Rattle.judge.specs.Ions.{conducted, hydrogenConductance, alkalinityCharge, alkalinityConductance, sum}
 use Rattle.judge.specs.Choices.{Choice}
 use Rattle.judge.specs.Verdicts.{applied}
 use Rattle.judge.specs.AtHydrogen.{Bounds}
 use Rattle.judge.specs.Corners.{Check, passesOf}
 use Rattle.judge.specs.IonBalance.{apart}
-use Rattle.judge.specs.Ranges.{massAt, rangesOf, ionsKnown}
+use Rattle.judge.specs.Ranges.{rangesOf, ionsKnown}
 
 -- 'M is 30 up to 10.0, 20 up to 20.0, 10 above', by tenths of µS/cm
 unfoldable pub conductivityLimit : ℕ → ℕ

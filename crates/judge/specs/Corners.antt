@@ -1,10 +1,10 @@
 -- The verdict by the corners of the ranges: the form that the code follows. `proofs/` show that it is the verdict by every choice.
 -- A check asks that the ratio of two sums, first / second, is in a window: from low to high.
-use mathlib.Core.Bool.{cond}
+use mathlib.Core.Bool.{Bool, cond}
 use Prim.Native.Nat.{ℕ, _+_, _*_, _≤_}
 use lib.Dec.{ltb}
 use Rattle.judge.specs.declared.window.Window.{Window}
-use Rattle.judge.specs.Record.{readings}
+use Rattle.record.specs.Record.{readings}
 use Rattle.judge.specs.Ions.{sum}
 use Rattle.judge.specs.Choices.{Ranges, Choice, gap}
 
@@ -36,14 +36,18 @@ pub record Passes (k : Check) (c : Choice) : Type 0 where
   pub high : k .window .high .denominator * firstOf k c ≤ k .window .high .numerator * partOf (k .second) c
   pub low : k .window .low .numerator * partOf (k .second) c ≤ k .window .low .denominator * firstOf k c
 
+-- a x is above b y, or with e above 0 at least that
+abbrev pub above : ℕ → ℕ → ℕ → ℕ → ℕ → Bool
+above a x b y e = ltb (b * y) (a * x + e)
+
 -- first sums from x₀ to x₁, second sums from y₀ to y₁. With e above 0 the ends of the first are not reached.
 -- 2 where even the best corner fails one side of the window, 3 where the worst corner fails one, else 1
 unfoldable pub decided : Window → ℕ → ℕ → ℕ → ℕ → ℕ → ℕ
 decided w e x₀ x₁ y₀ y₁ =
-    cond (ltb (w .high .numerator * y₁) (w .high .denominator * x₀ + e)) 2
-    (cond (ltb (w .low .denominator * x₁) (w .low .numerator * y₀ + e)) 2
-    (cond (ltb (w .high .numerator * y₀) (w .high .denominator * x₁)) 3
-    (cond (ltb (w .low .denominator * x₀) (w .low .numerator * y₁)) 3
+    cond (above (w .high .denominator) x₀ (w .high .numerator) y₁ e) 2
+    (cond (above (w .low .numerator) y₀ (w .low .denominator) x₁ e) 2
+    (cond (above (w .high .denominator) x₁ (w .high .numerator) y₀ 0) 3
+    (cond (above (w .low .numerator) y₁ (w .low .denominator) x₀ 0) 3
     1)))
 
 abbrev pub passesOf : Check → Ranges → ℕ

@@ -5,13 +5,13 @@ use Prim.Native.Nat.{ℕ, _+_, _-_, _*_, _≤_}
 use lib.Dec.{leb, ltb, eqb}
 use lib.IntN.{subℕ}
 use Rattle.judge.specs.declared.window.Window.{Window}
-use Rattle.judge.specs.Record.{kindOf, conductivityOf, alkalinityOf, readings, readingAt, present}
+use Rattle.record.specs.Record.{kindOf, conductivityOf, alkalinityOf, readings, readingAt, present, massAt}
 use Rattle.judge.specs.Ions.{organicCarbon, cationCharge, anionCharge, alkalinityCharge, sum}
 use Rattle.judge.specs.Choices.{Choice}
 use Rattle.judge.specs.Verdicts.{applied}
 use Rattle.judge.specs.AtHydrogen.{Bounds}
 use Rattle.judge.specs.Corners.{Check, passesOf}
-use Rattle.judge.specs.Ranges.{massAt, rangesOf, ionsKnown}
+use Rattle.judge.specs.Ranges.{rangesOf, ionsKnown}
 
 -- 'kinds 1 and 2, and kind 5 with DOC present and below 5,000 µg/L'
 unfoldable pub balanceApplies : ℕ → Bool → ℕ → Bool

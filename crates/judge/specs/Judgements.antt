@@ -7,7 +7,7 @@ use Rattle.refusal.specs.Numbers.{numberOf}
 use Rattle.judge.specs.declared.Verdicts.{Verdicts}
 use Rattle.judge.specs.declared.Judgement.{Judgement}
 use Rattle.judge.specs.declared.Judgement.the-variants as judgement
-use Rattle.judge.specs.Record.{accepted}
+use Rattle.record.specs.Record.{accepted}
 use Rattle.judge.specs.Verdicts.{verdictNumber}
 use Rattle.judge.specs.IonBalance.{ionBalanceOf}
 use Rattle.judge.specs.Conductivity.{conductivityVerdict}

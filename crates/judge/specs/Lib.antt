@@ -1,5 +1,4 @@
 pub mod Record
-pub mod Tested
 pub mod Ions
 pub mod Choices
 pub mod Verdicts
@@ -8,11 +7,11 @@ pub mod Corners
 pub mod Room
 pub mod Ranges
 pub mod Sums
-pub mod Prepared
 pub mod IonBalance
 pub mod Conductivity
 pub mod Ratios
 pub mod Judgements
 pub mod Truth
 pub mod Agreement
-pub mod Holding
+pub mod Analytes
+pub mod Prepared

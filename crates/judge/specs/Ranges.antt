@@ -4,13 +4,9 @@ use mathlib.Core.List.{List}
 use Prim.Native.Nat.{ℕ, _%_}
 use lib.Dec.{eqb}
 use Rattle.hydrogen.specs.Floors.{floorAt}
-use Rattle.judge.specs.Record.{phOf, readingAt, present, massOf, allBelow}
+use Rattle.record.specs.Record.{phOf, readingAt, present, massAt, allBelow}
 use Rattle.judge.specs.Ions.{ions}
 use Rattle.judge.specs.Choices.{Ranges}
-
--- the amount of reading i
-abbrev pub massAt : List ℕ → ℕ → ℕ
-massAt s i = massOf (readingAt s i)
 
 -- 'p a multiple of 100'
 abbrev pub isWhole : ℕ → Bool

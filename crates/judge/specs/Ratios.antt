@@ -4,10 +4,9 @@ use mathlib.Core.List.{List}
 use Prim.Native.Nat.{ℕ, _+_, _*_}
 use lib.Dec.{leb, eqb}
 use Rattle.judge.specs.declared.window.Window.{Window}
-use Rattle.judge.specs.Record.{kindOf, readingAt, present}
+use Rattle.record.specs.Record.{kindOf, readingAt, present, massAt}
 use Rattle.judge.specs.Ions.{ammonium, sodium, nitrate, chloride, totalNitrogen, cationCharge, anionCharge}
 use Rattle.judge.specs.Corners.{decided}
-use Rattle.judge.specs.Ranges.{massAt}
 
 -- 'the ratio of charges is from 0.5 to 1.5, ends included'
 abbrev pub sodiumChlorideWindow : Window

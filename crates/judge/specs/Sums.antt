@@ -2,7 +2,7 @@
 use mathlib.Core.Path.{_≡_}
 use Prim.Native.Nat.{ℕ, _*_}
 use Rattle.judge.specs.declared.ions.Sums.{Sums}
-use Rattle.judge.specs.Record.{readings}
+use Rattle.record.specs.Record.{readings}
 use Rattle.judge.specs.Ions.{cationCharge, anionCharge, conducted, sum}
 
 pub record IonSums (a : ℕ → ℕ) (x : Sums) : Type 0 where

@@ -2,46 +2,43 @@
 use crate::Charge;
 use crate::Verdict;
 use crate::checks::Hydrogen;
+use crate::checks::Solution;
 use crate::ions;
-use crate::ions::Sums;
-use crate::record;
 use crate::window;
 use crate::window::Fraction;
 use crate::window::Span;
 use crate::window::Window;
+use record::Analyte;
+use record::TestedRecord;
 ghost use mathlib.Core.Path.{_≡_};
 ghost use Prim.Native.Nat.{_+_, _≤_};
+ghost use Rattle.record.specs.Record.{present};
 ghost use Rattle.judge.specs.Verdicts.{verdictNumber};
 ghost use Rattle.judge.specs.Corners.{decided};
-ghost use Rattle.judge.specs.Prepared.{Prepared};
-ghost use Rattle.judge.specs.IonBalance.{balanceApplies, balanceAppliesTo, balanceLimit, balanceWindow, ionBalanceOf};
+ghost use Rattle.judge.specs.Prepared.{Bounded, balanceIn};
+ghost use Rattle.judge.specs.IonBalance.{balanceApplies, balanceLimit, balanceWindow};
 
 // The check of a record. 'Not applicable' goes before 'missing'.
-pub fn of_record(
-    words: &[u32],
-    applies: bool,
-    known: bool,
-    hydrogen: Hydrogen,
-    sums: Sums,
-) -> Verdict
-    requires { ⌜ (applies ≡ balanceAppliesTo (now words)) × Prepared (now words) known hydrogen sums ⌝ }
-    ensures { λ r. ⌜ verdictNumber r ≡ ionBalanceOf (now (words .entry)) ⌝ }
+pub fn of_record(own: TestedRecord, solution: Solution) -> Verdict
+    requires { ⌜ Bounded own solution ⌝ }
+    ensures { λ r. ⌜ verdictNumber r ≡ balanceIn own solution ⌝ }
 {
-    if !applies {
+    let carbon = own.analytes[ions::ORGANIC_CARBON];
+    if !applies(own.kind, carbon) {
         return Verdict::NotApplicable;
     }
-    if !known {
+    if !solution.known {
         return Verdict::Missing;
     }
-    let alkalinity = ions::alkalinity_charge(words[record::ALKALINITY]);
-    let anions = alkalinity.plus(sums.anions);
-    let limit = limit(words[record::CONDUCTIVITY]);
-    verdict(limit, hydrogen, sums.cations, anions)
+    let alkalinity = ions::alkalinity_charge(own.alkalinity);
+    let anions = alkalinity.plus(solution.sums.anions);
+    let limit = limit(own.conductivity);
+    verdict(limit, solution.hydrogen, solution.sums.cations, anions)
 }
 
 // Open field samples, and runoff with little dissolved organic carbon, whose charge is not known.
-pub fn applies(kind: u32, there: bool, carbon: u64) -> bool
-    ensures { λ r. ⌜ r ≡ balanceApplies kind there carbon ⌝ }
+fn applies(kind: u32, carbon: Analyte) -> bool
+    ensures { λ r. ⌜ r ≡ balanceApplies kind (present (carbon .reading)) (carbon .mass .0) ⌝ }
 {
     if kind == 1 {
         return true;
@@ -52,10 +49,10 @@ pub fn applies(kind: u32, there: bool, carbon: u64) -> bool
     if kind != 5 {
         return false;
     }
-    if !there {
+    if !carbon.is_present() {
         return false;
     }
-    carbon < 5000
+    carbon.mass.0 < 5000
 }
 
 // The limit in percent, by the measured conductivity in tenths of µS/cm.

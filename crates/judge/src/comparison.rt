@@ -1,32 +1,55 @@
-// Whether two accepted records agree.
+// Whether two records agree.
+use crate::Agreement;
 use crate::ions;
-use crate::record;
-use crate::record::Held;
+use record::Analyte;
+use record::READINGS;
+use record::Tested;
+use record::TestedRecord;
 ghost use mathlib.Core.Path.{_≡_};
-ghost use Prim.Native.Nat.{_≤_};
-ghost use lib.ListN.{length};
-ghost use Rattle.judge.specs.Record.{recordWords, allBelow};
+ghost use mathlib.Core.List.{List};
+ghost use Prim.Native.Nat.{ℕ, _≤_};
+ghost use Rattle.record.specs.Record.{allBelow};
+ghost use Rattle.record.specs.Tested.{OwnTests};
 ghost use Rattle.judge.specs.Ions.{ions};
-ghost use Rattle.judge.specs.Agreement.{phAgrees, agreesBy, agrees};
-ghost use Rattle.judge.specs.Holding.{Holds, Small, agreesIf, ionHeldAgrees};
+ghost use Rattle.judge.specs.Agreement.{phAgrees, agreesBy, agreementOutcome, agreementOf};
+ghost use Rattle.judge.specs.Analytes.{Small, analytesAgree, ionsAgreeAt, agreesIn};
 
-pub fn agrees(a: &[u32], b: &[u32], first: Held, second: Held) -> bool
-    requires { ⌜ (length (now a) ≡ recordWords) × (length (now b) ≡ recordWords) × Holds (now a) first × Holds (now b) second ⌝ }
-    ensures { λ r. ⌜ r ≡ agrees (now (a .entry)) (now (b .entry)) ⌝ }
+// Two records by how their own tests ended: the first is refused before the second.
+pub fn compare(one: TestedRecord, other: TestedRecord) -> Agreement
+    requires { ⌜ ((s : List ℕ) × OwnTests s one) × ((t : List ℕ) × OwnTests t other) ⌝ }
+    ensures { λ r. ⌜ ((s t : List ℕ) → OwnTests s one → OwnTests t other → agreementOutcome r ≡ agreementOf s t) ⌝ }
 {
-    if !ph_agrees(a[record::PH], b[record::PH]) {
+    let tested = one.tested;
+    if let Tested::Refused(why) = tested {
+        return Agreement::Refused(why);
+    }
+    let tested = other.tested;
+    if let Tested::Refused(why) = tested {
+        return Agreement::Refused(why);
+    }
+    if agrees(one, other) {
+        Agreement::Agree
+    } else {
+        Agreement::Differ
+    }
+}
+
+fn agrees(one: TestedRecord, other: TestedRecord) -> bool
+    requires { ⌜ Small (one .analytes) × Small (other .analytes) ⌝ }
+    ensures { λ r. ⌜ r ≡ agreesIn one other ⌝ }
+{
+    if !ph_agrees(one.ph, other.ph) {
         return false;
     }
-    if !agrees_by(
-        a[record::CONDUCTIVITY] as u64,
-        b[record::CONDUCTIVITY] as u64,
-    ) {
+    if !agrees_by(one.conductivity as u64, other.conductivity as u64) {
         return false;
     }
-    if !agrees_by(a[record::ALKALINITY] as u64, b[record::ALKALINITY] as u64) {
+    if !agrees_by(one.alkalinity as u64, other.alkalinity as u64) {
         return false;
     }
-    ions_agree(first, second)
+    let a = one.analytes;
+    let b = other.analytes;
+    ions_agree(a, b)
 }
 
 fn ph_agrees(p: u32, q: u32) -> bool
@@ -49,13 +72,15 @@ fn agrees_by(x: u64, y: u64) -> bool
     10 * (x - y) <= x
 }
 
-fn ions_agree(a: Held, b: Held) -> bool
+fn ions_agree(a: [Analyte; READINGS], b: [Analyte; READINGS]) -> bool
     requires { ⌜ Small a × Small b ⌝ }
-    ensures { λ r. ⌜ r ≡ allBelow (ionHeldAgrees a b) ions ⌝ }
+    ensures { λ r. ⌜ r ≡ allBelow (ionsAgreeAt a b) ions ⌝ }
 {
     let mut i: usize = 0;
     while i < ions::IONS {
-        if !readings_agree(a.there[i], a.masses[i], b.there[i], b.masses[i]) {
+        let first = a[i];
+        let second = b[i];
+        if !readings_agree(first, second) {
             return false;
         }
         i += 1;
@@ -63,16 +88,16 @@ fn ions_agree(a: Held, b: Held) -> bool
     true
 }
 
-// Two readings, each by whether it is there and its amount. Missing agrees only with missing.
-fn readings_agree(first: bool, x: u64, second: bool, y: u64) -> bool
-    requires { ⌜ (x ≤ 200_000) × (y ≤ 200_000) ⌝ }
-    ensures { λ r. ⌜ r ≡ agreesIf first x second y ⌝ }
+// Missing agrees only with missing.
+fn readings_agree(first: Analyte, second: Analyte) -> bool
+    requires { ⌜ (first .mass .0 ≤ 4_294_967_295) × (second .mass .0 ≤ 4_294_967_295) ⌝ }
+    ensures { λ r. ⌜ r ≡ analytesAgree first second ⌝ }
 {
-    if !first {
-        return !second;
+    if !first.is_present() {
+        return !second.is_present();
     }
-    if !second {
+    if !second.is_present() {
         return false;
     }
-    agrees_by(x, y)
+    agrees_by(first.mass.0, second.mass.0)
 }

@@ -3,37 +3,41 @@ use crate::Charge;
 use crate::Conductivity;
 use crate::Verdict;
 use crate::checks::Hydrogen;
+use crate::checks::Solution;
 use crate::ions;
-use crate::ions::Sums;
-use crate::record;
 use crate::window;
 use crate::window::Fraction;
 use crate::window::Span;
 use crate::window::Window;
+use record::TestedRecord;
 ghost use mathlib.Core.Path.{_≡_};
 ghost use Prim.Native.Nat.{_+_, _*_, _≤_};
 ghost use Rattle.judge.specs.Verdicts.{verdictNumber};
 ghost use Rattle.judge.specs.Ions.{hydrogenConductance};
 ghost use Rattle.judge.specs.Corners.{decided};
-ghost use Rattle.judge.specs.Prepared.{Prepared};
-ghost use Rattle.judge.specs.Conductivity.{conductivityLimit, conductivityWindow, measuredOf, conductivityVerdict};
+ghost use Rattle.judge.specs.Prepared.{Bounded, conductivityIn};
+ghost use Rattle.judge.specs.Conductivity.{conductivityLimit, conductivityWindow, measuredOf};
 
 // 10^-13 µS/cm in a tenth of a µS/cm.
 const MEASURED_UNIT: u64 = 1000000000000;
 
 // The check of a record.
-pub fn of_record(words: &[u32], known: bool, hydrogen: Hydrogen, sums: Sums) -> Verdict
-    requires { ⌜ Prepared (now words) known hydrogen sums ⌝ }
-    ensures { λ r. ⌜ verdictNumber r ≡ conductivityVerdict (now (words .entry)) ⌝ }
+pub fn of_record(own: TestedRecord, solution: Solution) -> Verdict
+    requires { ⌜ Bounded own solution ⌝ }
+    ensures { λ r. ⌜ verdictNumber r ≡ conductivityIn own solution ⌝ }
 {
-    if !known {
+    if !solution.known {
         return Verdict::Missing;
     }
-    let alkalinity = ions::alkalinity_charge(words[record::ALKALINITY]);
-    let others = ions::alkalinity_conductivity(alkalinity).plus(sums.conductivity);
-    let measured = words[record::CONDUCTIVITY];
-    let limit = limit(measured);
-    verdict(limit, hydrogen, others, measured_conductivity(measured))
+    let alkalinity = ions::alkalinity_charge(own.alkalinity);
+    let others = ions::alkalinity_conductivity(alkalinity).plus(solution.sums.conductivity);
+    let limit = limit(own.conductivity);
+    verdict(
+        limit,
+        solution.hydrogen,
+        others,
+        measured_conductivity(own.conductivity),
+    )
 }
 
 // The limit in percent, by the measured conductivity in tenths of µS/cm.

@@ -2,12 +2,13 @@
 // a mass into a charge and a charge into a conductivity, and only like is added to like.
 use crate::Charge;
 use crate::Conductivity;
-use crate::record::Held;
 use reading::Mass;
+use record::Analyte;
 ghost use mathlib.Core.Path.{_≡_};
 ghost use Prim.Native.Nat.{_+_, _*_, _^_, _≤_, _<_};
+ghost use Rattle.record.specs.Record.{mostMass};
 ghost use Rattle.judge.specs.Ions.{ions, cationCharge, anionCharge, conductance, alkalinityCharge, alkalinityConductance, hydrogenConductance};
-ghost use Rattle.judge.specs.Holding.{massHeld, Small};
+ghost use Rattle.judge.specs.Analytes.{amountAt, Small};
 ghost use Rattle.judge.specs.Sums.{IonSums};
 
 // NH4-N, Ca, Mg, Na, K, SO4-S, NO3-N, Cl: the places of the readings.
@@ -67,14 +68,14 @@ impl Conductivity {
 
 // The charge of an ion as a cation and as an anion: one of the two is 0.
 pub fn cation_charge(ion: usize, m: Mass) -> Charge
-    requires { ⌜ (ion < ions) × (m .0 ≤ 200_000) ⌝ }
+    requires { ⌜ (ion < ions) × (m .0 ≤ mostMass) ⌝ }
     ensures { λ r. ⌜ (r .0 ≡ cationCharge ion * m .0) × (r .0 ≤ 20_000_000_000_000) ⌝ }
 {
     Charge(COLUMN_UNIT * CATION[ion] * m.0)
 }
 
 pub fn anion_charge(ion: usize, m: Mass) -> Charge
-    requires { ⌜ (ion < ions) × (m .0 ≤ 200_000) ⌝ }
+    requires { ⌜ (ion < ions) × (m .0 ≤ mostMass) ⌝ }
     ensures { λ r. ⌜ (r .0 ≡ anionCharge ion * m .0) × (r .0 ≤ 20_000_000_000_000) ⌝ }
 {
     Charge(COLUMN_UNIT * ANION[ion] * m.0)
@@ -88,18 +89,18 @@ fn ion_conductivity(ion: usize, q: Charge) -> Conductivity
 }
 
 // The sums of the eight ions of a record.
-pub fn sums_of(held: Held) -> Sums
-    requires { ⌜ Small held ⌝ }
-    ensures { λ r. ⌜ IonSums (massHeld held) r ⌝ }
+pub fn sums_of(analytes: [Analyte; record::READINGS]) -> Sums
+    requires { ⌜ Small analytes ⌝ }
+    ensures { λ r. ⌜ IonSums (amountAt analytes) r ⌝ }
 {
     let mut cations = Charge(0);
     let mut anions = Charge(0);
     let mut conductivity = Conductivity(0);
     let mut i: usize = 0;
     while i < IONS {
-        let m = Mass(held.masses[i]);
-        let cation = cation_charge(i, m);
-        let anion = anion_charge(i, m);
+        let analyte = analytes[i];
+        let cation = cation_charge(i, analyte.mass);
+        let anion = anion_charge(i, analyte.mass);
         cations = cations.plus(cation);
         anions = anions.plus(anion);
         conductivity = conductivity.plus(ion_conductivity(i, cation.plus(anion)));

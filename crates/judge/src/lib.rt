@@ -8,24 +8,21 @@ mod conductivity_check;
 mod ions;
 mod nitrogen_check;
 mod ratio_check;
-mod record;
 mod window;
 
-use record::Tested;
 use refusal::Refusal;
 ghost use mathlib.Core.Path.{_≡_};
 ghost use Rattle.refusal.specs.Outcome.Outcome.{given};
-ghost use Rattle.judge.specs.Record.{sameSampleOf, isElement, hasReading};
+ghost use Rattle.record.specs.Record.{sameSampleOf};
 ghost use Rattle.judge.specs.Verdicts.{verdictNumber};
 ghost use Rattle.judge.specs.Judgements.{Four, judgementOutcome, judgementOf};
 ghost use Rattle.judge.specs.Truth.{Truth};
 ghost use Rattle.judge.specs.Agreement.{agreementOutcome, agreementOf};
 
-// The words of a record.
-pub const WORDS: usize = 25;
+// The words of a record, and where the sample number stands, for the crates above.
+pub const WORDS: usize = record::WORDS;
 
-// Where the sample number stands.
-pub const NUMBER: usize = 0;
+pub const NUMBER: usize = record::NUMBER;
 
 // A charge in u, which is 10^-9 µeq/L, held apart from mass and conductivity by its type.
 pub struct Charge(pub u64);
@@ -78,38 +75,42 @@ pub enum Agreement {
     Refused(Refusal),
 }
 
+// The verdicts of a record, and whether it agrees with an earlier one.
+pub struct Repeat {
+    pub judgement: Judgement,
+    pub agreement: Agreement,
+}
+
 // Judges a record: its own tests 1 to 7, then the four checks. The second promise says what each verdict is worth at
 // true hydrogen.
 pub fn judge(words: &[u32]) -> Judgement
     ensures answer { λ r. ⌜ judgementOutcome r ≡ judgementOf (now (words .entry)) ⌝ }
     ensures truth { λ r. ⌜ ((v : Four) → judgementOutcome r ≡ given v → Truth (now (words .entry)) v) ⌝ }
 {
-    let own = record::test(words);
-    let tested = own.tested;
-    match tested {
-        Tested::Accepted(floor) => Judgement::Judged(checks::verdicts(words, floor, own.held)),
-        Tested::Refused(why) => Judgement::Refused(why),
-    }
+    checks::judge_tested(record::test(words))
 }
 
-// Whether two analyses agree. The first record is tested before the second.
+// Whether two analyses agree. The first record is refused before the second.
 pub fn agree(first: &[u32], second: &[u32]) -> Agreement
     ensures { λ r. ⌜ agreementOutcome r ≡ agreementOf (now (first .entry)) (now (second .entry)) ⌝ }
 {
     let one = record::test(first);
-    let tested = one.tested;
-    if let Tested::Refused(why) = tested {
-        return Agreement::Refused(why);
-    }
     let other = record::test(second);
-    let tested = other.tested;
-    if let Tested::Refused(why) = tested {
-        return Agreement::Refused(why);
-    }
-    if comparison::agrees(first, second, one.held, other.held) {
-        Agreement::Agree
-    } else {
-        Agreement::Differ
+    comparison::compare(one, other)
+}
+
+// Judges a record and compares it with an earlier one: what `judge` and `agree` answer, with each record tested once.
+pub fn judge_repeat(earlier: &[u32], words: &[u32]) -> Repeat
+    ensures judged { λ r. ⌜ judgementOutcome (r .judgement) ≡ judgementOf (now (words .entry)) ⌝ }
+    ensures compared { λ r. ⌜ agreementOutcome (r .agreement) ≡ agreementOf (now (earlier .entry)) (now (words .entry)) ⌝ }
+{
+    let one = record::test(earlier);
+    let other = record::test(words);
+    let judgement = checks::judge_tested(other);
+    let agreement = comparison::compare(one, other);
+    Repeat {
+        judgement,
+        agreement,
     }
 }
 
@@ -127,25 +128,4 @@ pub fn same_sample(first: &[u32], second: &[u32]) -> bool
         return false;
     }
     first[record::KIND] == second[record::KIND]
-}
-
-// Whether a number is that of an element: 1 to 10, in reading order.
-pub fn is_element(element: u32) -> bool
-    ensures { λ r. ⌜ r ≡ isElement element ⌝ }
-{
-    record::in_range(1, record::READINGS as u32, element)
-}
-
-// Whether a record has a reading of an element that is not missing. Slices that are no records have none.
-pub fn has_reading(words: &[u32], element: u32) -> bool
-    ensures { λ r. ⌜ r ≡ hasReading (now (words .entry)) element ⌝ }
-{
-    if words.len() != WORDS {
-        return false;
-    }
-    if !is_element(element) {
-        return false;
-    }
-    let r = record::reading_at(words, element as usize - 1);
-    amounts::is_present(r)
 }

@@ -2,43 +2,52 @@
 use crate::Verdict;
 use crate::amounts;
 use crate::ions;
-use crate::record::Held;
 use crate::window;
 use crate::window::Fraction;
 use crate::window::Span;
 use crate::window::Window;
 use reading::Mass;
+use record::Analyte;
 ghost use mathlib.Core.Path.{_≡_};
-ghost use Prim.Native.Nat.{_≤_};
+ghost use Prim.Native.Nat.{_+_, _≤_};
+ghost use Rattle.record.specs.Record.{mostMass};
+ghost use Rattle.record.specs.Tested.{analyteAt};
+ghost use Rattle.judge.specs.Ions.{ammonium, nitrate, totalNitrogen};
 ghost use Rattle.judge.specs.Verdicts.{verdictNumber};
 ghost use Rattle.judge.specs.Corners.{decided};
 ghost use Rattle.judge.specs.Ratios.{nitrogenWindow};
-ghost use Rattle.judge.specs.Holding.{Small, nitrogenHeld};
+ghost use Rattle.judge.specs.Analytes.{Small, nitrogenIn};
 
 // The check of a record.
-pub fn of_record(held: Held) -> Verdict
-    requires { ⌜ Small held ⌝ }
-    ensures { λ r. ⌜ verdictNumber r ≡ nitrogenHeld held ⌝ }
+pub fn of_record(analytes: [Analyte; record::READINGS]) -> Verdict
+    requires { ⌜ Small analytes ⌝ }
+    ensures { λ r. ⌜ verdictNumber r ≡ nitrogenIn (analyteAt analytes totalNitrogen) (analyteAt analytes nitrate) (analyteAt analytes ammonium) ⌝ }
 {
-    if !held.there[ions::TOTAL_NITROGEN] {
+    let total = analytes[ions::TOTAL_NITROGEN];
+    let nitrate = analytes[ions::NITRATE];
+    let ammonium = analytes[ions::AMMONIUM];
+    of_readings(total, nitrate, ammonium)
+}
+
+fn of_readings(total: Analyte, nitrate: Analyte, ammonium: Analyte) -> Verdict
+    requires { ⌜ (total .mass .0 ≤ mostMass) × (nitrate .mass .0 ≤ mostMass) × (ammonium .mass .0 ≤ mostMass) ⌝ }
+    ensures { λ r. ⌜ verdictNumber r ≡ nitrogenIn total nitrate ammonium ⌝ }
+{
+    if !total.is_present() {
         return Verdict::NotApplicable;
     }
-    if !held.there[ions::NITRATE] {
+    if !nitrate.is_present() {
         return Verdict::Missing;
     }
-    if !held.there[ions::AMMONIUM] {
+    if !ammonium.is_present() {
         return Verdict::Missing;
     }
-    let total = held.masses[ions::TOTAL_NITROGEN];
-    let nitrate = held.masses[ions::NITRATE];
-    let ammonium = held.masses[ions::AMMONIUM];
-    let mineral = amounts::plus(Mass(nitrate), Mass(ammonium));
-    verdict(mineral, Mass(total))
+    verdict(amounts::plus(nitrate.mass, ammonium.mass), total.mass)
 }
 
 // At most all of it.
 fn verdict(mineral: Mass, total: Mass) -> Verdict
-    requires { ⌜ (mineral .0 ≤ 400_000) × (total .0 ≤ 200_000) ⌝ }
+    requires { ⌜ (mineral .0 ≤ mostMass + mostMass) × (total .0 ≤ mostMass) ⌝ }
     ensures { λ r. ⌜ verdictNumber r ≡ decided nitrogenWindow 0 (mineral .0) (mineral .0) (total .0) (total .0) ⌝ }
 {
     let low = Fraction {

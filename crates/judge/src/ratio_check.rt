@@ -2,41 +2,51 @@
 use crate::Charge;
 use crate::Verdict;
 use crate::ions;
-use crate::record::Held;
 use crate::window;
 use crate::window::Fraction;
 use crate::window::Span;
 use crate::window::Window;
-use reading::Mass;
+use record::Analyte;
 ghost use mathlib.Core.Path.{_≡_};
 ghost use Prim.Native.Nat.{_≤_};
+ghost use Rattle.record.specs.Record.{mostMass};
+ghost use Rattle.record.specs.Tested.{analyteAt};
+ghost use Rattle.judge.specs.Ions.{sodium, chloride};
 ghost use Rattle.judge.specs.Verdicts.{verdictNumber};
 ghost use Rattle.judge.specs.Corners.{decided};
 ghost use Rattle.judge.specs.Ratios.{sodiumChlorideWindow};
-ghost use Rattle.judge.specs.Holding.{Small, ratioHeld};
+ghost use Rattle.judge.specs.Analytes.{Small, ratioIn};
 
-// The check of a record of that kind. A chloride of amount 0 leaves no ratio, whatever sodium is.
-pub fn of_record(kind: u32, held: Held) -> Verdict
-    requires { ⌜ Small held ⌝ }
-    ensures { λ r. ⌜ verdictNumber r ≡ ratioHeld kind held ⌝ }
+// The check of a record of that kind.
+pub fn of_record(kind: u32, analytes: [Analyte; record::READINGS]) -> Verdict
+    requires { ⌜ Small analytes ⌝ }
+    ensures { λ r. ⌜ verdictNumber r ≡ ratioIn kind (analyteAt analytes sodium) (analyteAt analytes chloride) ⌝ }
 {
     if kind > 4 {
         return Verdict::NotApplicable;
     }
-    if !held.there[ions::CHLORIDE] {
+    let sodium = analytes[ions::SODIUM];
+    let chloride = analytes[ions::CHLORIDE];
+    of_readings(sodium, chloride)
+}
+
+// A chloride of amount 0 leaves no ratio, whatever sodium is.
+fn of_readings(sodium: Analyte, chloride: Analyte) -> Verdict
+    requires { ⌜ (sodium .mass .0 ≤ mostMass) × (chloride .mass .0 ≤ mostMass) ⌝ }
+    ensures { λ r. ⌜ verdictNumber r ≡ ratioIn 1 sodium chloride ⌝ }
+{
+    if !chloride.is_present() {
         return Verdict::Missing;
     }
-    let chloride = held.masses[ions::CHLORIDE];
-    if chloride == 0 {
+    if chloride.mass.0 == 0 {
         return Verdict::NotApplicable;
     }
-    if !held.there[ions::SODIUM] {
+    if !sodium.is_present() {
         return Verdict::Missing;
     }
-    let sodium = held.masses[ions::SODIUM];
     verdict(
-        ions::cation_charge(ions::SODIUM, Mass(sodium)),
-        ions::anion_charge(ions::CHLORIDE, Mass(chloride)),
+        ions::cation_charge(ions::SODIUM, sodium.mass),
+        ions::anion_charge(ions::CHLORIDE, chloride.mass),
     )
 }
 

@@ -1,8 +1,9 @@
 // A window for the ratio of two sums, and the verdict by the corners of their ranges.
 use crate::Verdict;
 ghost use mathlib.Core.Path.{_≡_};
+ghost use Prim.Native.Nat.{_+_, _*_, _^_, _<_};
 ghost use Rattle.judge.specs.Verdicts.{verdictNumber};
-ghost use Rattle.judge.specs.Corners.{decided};
+ghost use Rattle.judge.specs.Corners.{above, decided};
 ghost use Rattle.judge.specs.Room.{Room};
 
 pub struct Fraction {
@@ -30,17 +31,33 @@ pub fn decide(window: Window, gap: u64, first: Span, second: Span) -> Verdict
 {
     let low = window.low;
     let high = window.high;
-    if high.numerator * second.most < high.denominator * first.least + gap {
+    if exceeds(high, first.least, second.most, gap) {
         return Verdict::Outside;
     }
-    if low.denominator * first.most < low.numerator * second.least + gap {
+    if falls_short(low, first.most, second.least, gap) {
         return Verdict::Outside;
     }
-    if high.numerator * second.least < high.denominator * first.most {
+    if exceeds(high, first.most, second.least, 0) {
         return Verdict::Undecided;
     }
-    if low.denominator * first.least < low.numerator * second.most {
+    if falls_short(low, first.least, second.most, 0) {
         return Verdict::Undecided;
     }
     Verdict::Within
+}
+
+// Whether first / second is above the bound, or with a gap at least the bound.
+fn exceeds(bound: Fraction, first: u64, second: u64, gap: u64) -> bool
+    requires { ⌜ (bound .numerator * second < 2 ^ 64) × (bound .denominator * first + gap < 2 ^ 64) ⌝ }
+    ensures { λ r. ⌜ r ≡ above (bound .denominator) first (bound .numerator) second gap ⌝ }
+{
+    bound.numerator * second < bound.denominator * first + gap
+}
+
+// Whether first / second is below the bound, or with a gap at most the bound.
+fn falls_short(bound: Fraction, first: u64, second: u64, gap: u64) -> bool
+    requires { ⌜ (bound .denominator * first < 2 ^ 64) × (bound .numerator * second + gap < 2 ^ 64) ⌝ }
+    ensures { λ r. ⌜ r ≡ above (bound .numerator) second (bound .denominator) first gap ⌝ }
+{
+    bound.denominator * first < bound.numerator * second + gap
 }

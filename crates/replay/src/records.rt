@@ -59,7 +59,7 @@ pub fn has_reading(words: &[u32]) -> bool {
     if words.len() == 0 {
         return false;
     }
-    if judge::has_reading(&words[1..], words[0]) {
+    if record::has_reading(&words[1..], words[0]) {
         print::text(b"present");
     } else {
         print::text(b"absent");

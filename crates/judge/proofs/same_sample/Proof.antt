@@ -1,6 +1,6 @@
 -- Each return is what the definition gives by the tests on the way.
 use borrow.Author.Tests.{eq-eqb, ne-eqb}
-use Rattle.judge.specs.Record.{sameSampleOf}
+use Rattle.record.specs.Record.{sameSampleOf}
 use borrow.Author.Needs.{needs}
 use Rattle.judge.proofs.same_sample.Statement.{statement}
 use Rattle.judge.proofs.same_sample.Tie as tie

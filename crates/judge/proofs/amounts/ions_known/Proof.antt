@@ -3,31 +3,36 @@ use mathlib.Core.Path.{_≡_, sym}
 use mathlib.Core.Bool.{true}
 use Prim.Native.Nat.{_-_, _≤_}
 use native.Mathlib.Omega.{arith}
-use borrow.Author.Tests.{not-true, not-false}
-use Rattle.judge.specs.Record.{allBelow}
+use Rattle.refusal.proofs.Testing.{failed, passed}
+use Rattle.record.specs.Record.{allBelow}
+use Rattle.record.proofs.AllBelow.{all-none, all-more, all-fails}
 use Rattle.judge.specs.Ions.{ions}
-use Rattle.judge.specs.Holding.{thereHeld}
-use Rattle.judge.proofs.AllBelow.{all-none, all-more, all-fails}
+use Rattle.judge.specs.Analytes.{thereAt}
 use borrow.Author.Needs.{needs}
 use Rattle.judge.proofs.amounts.ions_known.Statement.{statement}
 use Rattle.judge.proofs.amounts.ions_known.Tie as tie
 
 abbrev Inv-loop : tie.InvT-loop
-Inv-loop held i₀ i = (i ≤ ions) × (allBelow (thereHeld held) i ≡ true)
+Inv-loop analytes i₀ i = (i ≤ ions) × (allBelow (thereAt analytes) i ≡ true)
 
 abbrev μ-loop : tie.MeasureT-loop
-μ-loop held i₀ i = ions - i
+μ-loop analytes i₀ i = ions - i
 
 loop-holds : tie.Need-loop-holds Inv-loop μ-loop
 loop-holds c = (search needs, all-none _)
 
-element-copy-out-if1 : tie.Need-element-copy-out-if1 Inv-loop μ-loop
-element-copy-out-if1 c = search needs
+mul-ion : tie.Need-mul-ion Inv-loop μ-loop
+mul-ion c = search needs
+
+array-copy-out-ion : tie.Need-array-copy-out-ion Inv-loop μ-loop
+array-copy-out-ion c = search needs
+
+is-present-requires : tie.Need-is-present-requires Inv-loop μ-loop
+is-present-requires c κs = search needs
 
 returns : tie.Need-returns Inv-loop μ-loop
-returns c =
-    let turn = c .before .before in
-    sym (all-fails _ (turn .before .loop .i) ions (turn .loop-test .taken) (not-true _ (c .if1 .taken)))
+returns c = let turn = c .before .before .before in
+    sym (all-fails _ (turn .before .loop .i) ions (turn .loop-test .taken) (failed (c .before .is-present .ensures) (c .if1 .taken)))
 
 add-i : tie.Need-add-i Inv-loop μ-loop
 add-i c = search needs
@@ -36,9 +41,8 @@ loop-less : tie.Need-loop-less Inv-loop μ-loop
 loop-less c = search needs
 
 loop-again : tie.Need-loop-again Inv-loop μ-loop
-loop-again c =
-    let at = c .before .before .before in
-    (search needs, all-more _ (at .loop .i) (at .loop .inv .1) (not-false _ (c .if1 .left)))
+loop-again c = let l = c .before .before .before .before .loop in
+    (search needs, all-more _ (l .i) (l .inv .1) (passed (c .before .is-present .ensures) (c .if1 .left)))
 
 returns-2 : tie.Need-returns-2 Inv-loop μ-loop
 returns-2 c = let e : c .before .loop .i ≡ ions = omega arith in sym (rw e at (c .before .loop .inv .1))
@@ -50,7 +54,9 @@ ions-known-spec =
     Inv-loop
     μ-loop
     loop-holds
-    element-copy-out-if1
+    mul-ion
+    array-copy-out-ion
+    is-present-requires
     returns
     add-i
     loop-less

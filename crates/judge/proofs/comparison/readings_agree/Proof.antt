@@ -1,21 +1,43 @@
 -- Each return is what the definition picks by which readings are there.
-use borrow.Author.Tests.{not-true, not-false}
+use mathlib.Core.Path.{ap, _∙_}
+use mathlib.Core.Bool.{not}
+use Rattle.refusal.proofs.Testing.{failed, passed}
 use borrow.Author.Needs.{needs}
 use Rattle.judge.proofs.comparison.readings_agree.Statement.{statement}
 use Rattle.judge.proofs.comparison.readings_agree.Tie as tie
 
+is-present-requires : tie.Need-is-present-requires
+is-present-requires c κs = search needs
+
+is-present-requires-2 : tie.Need-is-present-requires-2
+is-present-requires-2 c κs = search needs
+
 returns : tie.Need-returns
-returns c = simp (not-true (c .before .args .first) (c .if1 .taken))
+returns c = simp (failed (c .before .before .is-present .ensures) (c .before .if1 .taken)) (ap not (c .is-present2 .ensures))
+
+is-present-requires-3 : tie.Need-is-present-requires-3
+is-present-requires-3 c κs = search needs
 
 returns-2 : tie.Need-returns-2
-returns-2 c = simp (not-false (c .before .before .args .first) (c .before .if1 .left), not-true (c .before .before .args .second) (c .if2 .taken))
+returns-2 c = let first = c .before .before in
+    simp (passed (first .before .is-present .ensures) (first .if1 .left), failed (c .before .is-present3 .ensures) (c .if2 .taken))
 
 agrees-by-requires : tie.Need-agrees-by-requires
 agrees-by-requires c κs = search needs
 
 returns-3 : tie.Need-returns-3
-returns-3 c = let a = c .before .before .before .args in
-    simp (not-false (a .first) (c .before .before .if1 .left), not-false (a .second) (c .before .if2 .left)) (c .agrees-by .ensures)
+returns-3 c = let second = c .before in
+    let first = second .before .before in
+    simp (passed (first .before .is-present .ensures) (first .if1 .left), passed (second .before .is-present3 .ensures) (second .if2 .left)) (c .agrees-by .ensures)
 
 pub readings-agree-spec : {M : Type 1} → statement M
-readings-agree-spec = tie.close (tie.spec returns returns-2 agrees-by-requires returns-3)
+readings-agree-spec =
+    tie.close
+    (tie.spec
+    is-present-requires
+    is-present-requires-2
+    returns
+    is-present-requires-3
+    returns-2
+    agrees-by-requires
+    returns-3)

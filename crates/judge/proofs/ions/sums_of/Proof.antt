@@ -4,33 +4,33 @@ use Prim.Native.Nat.{ℕ, _+_, _-_, _*_, _≤_}
 use native.Mathlib.Omega.{arith}
 use borrow.Author.Needs.{needs}
 use Rattle.judge.specs.Ions.{ions, cationCharge, anionCharge, conductance, conducted, sum}
-use Rattle.judge.specs.Holding.{massHeld}
+use Rattle.judge.specs.Analytes.{amountAt}
 use Rattle.judge.proofs.IonLaws.{sum-next, conducts, cations-only, anions-only, conducted-only}
 use Rattle.judge.proofs.ions.sums_of.Statement.{statement}
 use Rattle.judge.proofs.ions.sums_of.Tie as tie
 
 abbrev Inv-loop : tie.InvT-loop
-Inv-loop held cations₀ anions₀ conductivity₀ i₀ cations anions conductivity i =
+Inv-loop analytes cations₀ anions₀ conductivity₀ i₀ cations anions conductivity i =
     (i ≤ ions)
-    × (cations .0 ≡ sum (λ k. cationCharge k * massHeld held k) i)
-    × (anions .0 ≡ sum (λ k. anionCharge k * massHeld held k) i)
-    × (conductivity .0 ≡ sum (λ k. conducted k * massHeld held k) i)
+    × (cations .0 ≡ sum (λ k. cationCharge k * amountAt analytes k) i)
+    × (anions .0 ≡ sum (λ k. anionCharge k * amountAt analytes k) i)
+    × (conductivity .0 ≡ sum (λ k. conducted k * amountAt analytes k) i)
     × (cations .0 ≤ 20_000_000_000_000 * i)
     × (anions .0 ≤ 20_000_000_000_000 * i)
     × (conductivity .0 ≤ 40_000_000_000_000_000 * i)
 
 abbrev μ-loop : tie.MeasureT-loop
-μ-loop held cations₀ anions₀ conductivity₀ i₀ cations anions conductivity i = ions - i
+μ-loop analytes cations₀ anions₀ conductivity₀ i₀ cations anions conductivity i = ions - i
 
 loop-holds : tie.Need-loop-holds Inv-loop μ-loop
 unfolding sum
 loop-holds c = (omega arith, refl, refl, refl, omega arith, omega arith, omega arith)
 
-mul-t11 : tie.Need-mul-t11 Inv-loop μ-loop
-mul-t11 c = search needs
+mul-analyte : tie.Need-mul-analyte Inv-loop μ-loop
+mul-analyte c = search needs
 
-element-copy-out-t14 : tie.Need-element-copy-out-t14 Inv-loop μ-loop
-element-copy-out-t14 c = search needs
+array-copy-out-analyte : tie.Need-array-copy-out-analyte Inv-loop μ-loop
+array-copy-out-analyte c = search needs
 
 cation-charge-requires : tie.Need-cation-charge-requires Inv-loop μ-loop
 cation-charge-requires c κs = (omega arith, c .before .before .before .pre .most (c .before .before .loop .i) (omega arith))
@@ -63,7 +63,7 @@ loop-again : tie.Need-loop-again Inv-loop μ-loop
 loop-again c =
     let charged = c .before .before .before .before .before in
     let at = charged .before .before .before .before .loop in
-    let a = massHeld (charged .before .before .before .before .before .args .t1) in
+    let a = amountAt (charged .before .before .before .before .before .args .t1) in
     let i = at .i in
     let cation = charged .before .cation-charge .ensures .0 in
     let anion = charged .anion-charge .ensures .0 in
@@ -82,7 +82,7 @@ loop-again c =
 
 returns : tie.Need-returns Inv-loop μ-loop
 returns c =
-    let a = massHeld (c .before .before .args .t1) in
+    let a = amountAt (c .before .before .args .t1) in
     let at = c .before .loop in
     let e : at .i ≡ ions = omega arith in
     record {
@@ -98,8 +98,8 @@ sums-of-spec =
     Inv-loop
     μ-loop
     loop-holds
-    mul-t11
-    element-copy-out-t14
+    mul-analyte
+    array-copy-out-analyte
     cation-charge-requires
     anion-charge-requires
     plus-requires

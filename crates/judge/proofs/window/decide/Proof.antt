@@ -1,70 +1,71 @@
--- Each return is the verdict that the tests on the way lead to, and what they compute fits.
-use native.Mathlib.Omega.{arith}
-use Rattle.judge.proofs.Deciding.{says-over, says-under, says-parted, says-parted′, says-within}
+-- Each return is the verdict that the tests on the way lead to.
+use mathlib.Core.Path.{sym, _∙_}
+use Rattle.judge.specs.Corners.{decided}
+use borrow.Author.Needs.{needs}
 use Rattle.judge.proofs.window.decide.Statement.{statement}
 use Rattle.judge.proofs.window.decide.Tie as tie
 
-mul-if1 : tie.Need-mul-if1
-mul-if1 c = omega arith
-
-mul-if1-2 : tie.Need-mul-if1-2
-mul-if1-2 c = omega arith
-
-add-if1 : tie.Need-add-if1
-add-if1 c = omega arith
+exceeds-requires : tie.Need-exceeds-requires
+exceeds-requires c κs = search needs
 
 returns : tie.Need-returns
-returns c = search says-over
+unfolding decided
+returns c = simp (sym (c .before .exceeds .ensures) ∙ c .if1 .taken)
 
-mul-if2 : tie.Need-mul-if2
-mul-if2 c = omega arith
-
-mul-if2-2 : tie.Need-mul-if2-2
-mul-if2-2 c = omega arith
-
-add-if2 : tie.Need-add-if2
-add-if2 c = omega arith
+falls-short-requires : tie.Need-falls-short-requires
+falls-short-requires c κs = search needs
 
 returns-2 : tie.Need-returns-2
-returns-2 c = search says-under
+unfolding decided
+returns-2 c = let high = c .before .before in
+    simp (sym (high .before .exceeds .ensures) ∙ high .if1 .left, sym (c .before .falls-short .ensures) ∙ c .if2 .taken)
 
-mul-if3 : tie.Need-mul-if3
-mul-if3 c = omega arith
-
-mul-if3-2 : tie.Need-mul-if3-2
-mul-if3-2 c = omega arith
+exceeds-requires-2 : tie.Need-exceeds-requires-2
+exceeds-requires-2 c κs = search needs
 
 returns-3 : tie.Need-returns-3
-returns-3 c = search says-parted
+unfolding decided
+returns-3 c = let low = c .before .before in
+    let high = low .before .before in
+    simp (sym (high .before .exceeds .ensures) ∙ high .if1 .left, sym (low .before .falls-short .ensures) ∙ low .if2 .left, sym (c .before .exceeds2 .ensures) ∙ c .if3 .taken)
 
-mul-if4 : tie.Need-mul-if4
-mul-if4 c = omega arith
-
-mul-if4-2 : tie.Need-mul-if4-2
-mul-if4-2 c = omega arith
+falls-short-requires-2 : tie.Need-falls-short-requires-2
+falls-short-requires-2 c κs = search needs
 
 returns-4 : tie.Need-returns-4
-returns-4 c = search says-parted′
+unfolding decided
+returns-4 c = let worst = c .before .before in
+    let low = worst .before .before in
+    let high = low .before .before in
+    simp (
+      sym (high .before .exceeds .ensures) ∙ high .if1 .left,
+      sym (low .before .falls-short .ensures) ∙ low .if2 .left,
+      sym (worst .before .exceeds2 .ensures) ∙ worst .if3 .left,
+      sym (c .before .falls-short2 .ensures) ∙ c .if4 .taken,
+    )
 
 returns-5 : tie.Need-returns-5
-returns-5 c = search says-within
+unfolding decided
+returns-5 c = let worst = c .before .before in
+    let low = worst .before .before in
+    let high = low .before .before in
+    simp (
+      sym (high .before .exceeds .ensures) ∙ high .if1 .left,
+      sym (low .before .falls-short .ensures) ∙ low .if2 .left,
+      sym (worst .before .exceeds2 .ensures) ∙ worst .if3 .left,
+      sym (c .before .falls-short2 .ensures) ∙ c .if4 .left,
+    )
 
 pub decide-spec : {M : Type 1} → statement M
 decide-spec =
     tie.close
     (tie.spec
-    mul-if1
-    mul-if1-2
-    add-if1
+    exceeds-requires
     returns
-    mul-if2
-    mul-if2-2
-    add-if2
+    falls-short-requires
     returns-2
-    mul-if3
-    mul-if3-2
+    exceeds-requires-2
     returns-3
-    mul-if4
-    mul-if4-2
+    falls-short-requires-2
     returns-4
     returns-5)
