@@ -4,9 +4,10 @@
     scripts/mutations.py [COUNT [SEED]]
 
 draws COUNT edits (50) of src/ by SEED (1), spread over the library crates: an operator, a constant, an operand or a truth
-value changed on one line of code. Each is made in a copy of the repository and handed to the prover (`rt dev`, the edit loop).
-An edit that the prover accepts is then run through the programs' stored cases. What is left after both is a survivor: it
-either does not change what the code does, or it shows a promise that is too weak.
+value changed on one line of code, or two tests in a row changed about. Each is made in a copy of the repository and handed to
+the prover (`rt dev`, the edit loop); one that is no program at all does not count, and another is drawn for it. An edit that
+the prover accepts is then run through the programs' stored cases. What is left after both is a survivor: it either does not
+change what the code does, or it shows a promise that is too weak.
 """
 import pathlib
 import random
@@ -17,14 +18,18 @@ import sys
 import tempfile
 
 ROOT = pathlib.Path(__file__).resolve().parent.parent
-CRATES = ['refusal', 'reading', 'hydrogen', 'judge', 'docket', 'chart', 'batch', 'listing', 'analyser']
+CRATES = ['refusal', 'reading', 'hydrogen', 'record', 'judge', 'docket', 'chart', 'batch', 'listing', 'analyser']
 
 # What is written in place of what. Of an edit that fits in several places of a line, one place is drawn.
 SWAPS = [
     (r' < ', ' <= '), (r' <= ', ' < '), (r' > ', ' >= '), (r' >= ', ' > '), (r' == ', ' != '), (r' != ', ' == '),
     (r' \+ ', ' - '), (r' - ', ' + '), (r' \* ', ' + '), (r' \+= ', ' -= '), (r'\btrue\b', 'false'), (r'\bfalse\b', 'true'),
-    (r'if !', 'if '), (r'\bfirst\b', 'second'), (r'\bleast\b', 'most'), (r'\bsetup\b', 'later'),
+    (r'if !', 'if '), (r'\bfirst\b', 'second'), (r'\bsecond\b', 'first'), (r'\bleast\b', 'most'), (r'\bmost\b', 'least'),
+    (r'\bsetup\b', 'later'), (r'\bone\b', 'other'), (r'\bother\b', 'one'), (r'\((\w+), (\w+)\)', r'(\2, \1)'),
 ]
+
+# A test that ends the function where it fails, on three lines.
+TEST = re.compile(r'(    if [^\n]* \{\n        return [^\n]*;\n    \}\n)(    if [^\n]* \{\n        return [^\n]*;\n    \}\n)')
 
 
 def code_lines(path):
@@ -39,30 +44,34 @@ def code_lines(path):
 def edits_of_line(line):
     for old, new in SWAPS:
         for found in re.finditer(old, line):
-            yield line[:found.start()] + new + line[found.end():]
+            yield line[:found.start()] + found.expand(new) + line[found.end():]
     for found in re.finditer(r'(?<![\w.])\d+(?![\w.])', line):
         yield line[:found.start()] + str(int(found.group()) + 1) + line[found.end():]
 
 
 def edits_of_crate(crate):
-    """Every edit of a crate: the file, the line's number, the line and what replaces it. Of a table, one entry in forty."""
+    """Every edit of a crate: the file, the number of its first line, the lines and what replaces them. Of a table, one entry in forty."""
     edits = []
     for path in sorted((ROOT / 'crates' / crate / 'src').glob('*.rt')):
+        text = path.read_text(encoding='utf-8')
+        place = path.relative_to(ROOT)
         for number, line in code_lines(path):
             if re.fullmatch(r'\s*\d+,', line) and number % 40:
                 continue
-            edits += [(path.relative_to(ROOT), number, line, new) for new in edits_of_line(line)]
+            edits += [(place, number, line, new) for new in edits_of_line(line) if new != line]
+        for found in TEST.finditer(text):
+            first, second = found.groups()
+            edits.append((place, text[:found.start()].count('\n'), (first + second).rstrip('\n'), (second + first).rstrip('\n')))
     return edits
 
 
-def drawn(count, seed):
-    """So many edits, taken from the crates in turn."""
+def drawn(seed):
+    """Edits taken from the crates in turn."""
     draw = random.Random(seed)
     piles = {crate: draw.sample(edits, len(edits)) for crate in CRATES for edits in [edits_of_crate(crate)]}
-    while count > 0 and any(piles.values()):
+    while any(piles.values()):
         for crate in CRATES:
-            if piles[crate] and count > 0:
-                count -= 1
+            if piles[crate]:
                 yield crate, piles[crate].pop()
 
 
@@ -82,9 +91,8 @@ def tried(copy, crate, edit):
     path, number, line, new = edit
     file = copy / path
     before = file.read_text(encoding='utf-8')
-    lines = before.split('\n')
-    lines[number] = new
-    file.write_text('\n'.join(lines), encoding='utf-8')
+    start = len(''.join(before.splitlines(keepends=True)[:number]))
+    file.write_text(before[:start] + new + before[start + len(line):], encoding='utf-8')
     try:
         return refused_by(copy, crate)
     finally:
@@ -100,8 +108,12 @@ def main():
         shutil.copytree(ROOT, copy, ignore=shutil.ignore_patterns('.git', 'reference', 'differential', 'benchmark'))
         if run(copy, 'check').returncode != 0:
             sys.exit('the crates as they stand are not proved')
-        for crate, edit in drawn(count, seed):
+        for crate, edit in drawn(seed):
+            if sum(counts.values()) == count:
+                break
             by = tried(copy, crate, edit)
+            if by == 'the front end':
+                continue
             counts[by or 'nothing'] = counts.get(by or 'nothing', 0) + 1
             path, number, line, new = edit
             print(f'{"SURVIVES" if by is None else "refused by " + by}: {path}:{number + 1}\n    {line.strip()}\n    {new.strip()}', flush=True)

@@ -1,7 +1,6 @@
--- A test of every value of a list: of two lists in one, in a loop that is left at the first value that fails, where after i turns
--- the values from place i on decide, and in a loop that remembers whether one failed.
-use mathlib.Core.Path.{_≡_, refl, ap, _∙_}
-use mathlib.Core.Bool.{Bool, true, false, _&&_, and-true}
+-- A test of every value of a list: of two lists in one, and in a loop that remembers whether one failed.
+use mathlib.Core.Path.{_≡_, refl, sym, ap, _∙_}
+use mathlib.Core.Bool.{Bool, true, _&&_, and-true, and-assoc}
 use mathlib.Core.List.{List, [], _∷_, _++_}
 use Prim.Native.Nat.{ℕ, _+_, _≤_, _<_}
 use native.Mathlib.Numerals.{add-one}
@@ -9,33 +8,32 @@ use lib.ListN.{length, getD, drop, drop-of-length-le}
 use lib.Seq.{drop-cons}
 use Rattle.chart.specs.Rules.{every}
 
-module _ (f : ℕ → Bool) where
-  and-assoc : (a b c : Bool) → (a && (b && c)) ≡ ((a && b) && c)
-  and-assoc true b c = refl
-  and-assoc false b c = refl
+-- ---- what a loop has seen and what is still to come, of any test
+pub further : (seen test next : Bool) {rest : Bool} → rest ≡ (test && next) → (seen && rest) ≡ ((seen && test) && next)
+further seen test next e = ap (λ (b : Bool). seen && b) e ∙ sym (and-assoc seen test next)
 
+pub at-end : (seen : Bool) {rest : Bool} → rest ≡ true → (seen && rest) ≡ seen
+at-end seen e = ap (λ (b : Bool). seen && b) e ∙ and-true seen
+
+module _ (f : ℕ → Bool) where
   pub every-append : (a l : List ℕ) → every f (a ++ l) ≡ (every f a && every f l)
   unfolding every
   every-append [] l = refl
-  every-append (v ∷ a) l = ap (λ (b : Bool). f v && b) (every-append a l) ∙ and-assoc (f v) (every f a) (every f l)
+  every-append (v ∷ a) l = further (f v) (every f a) (every f l) (every-append a l)
 
-  module _ (l : List ℕ) (i : ℕ) where
-    from : i < length l → every f (drop i l) ≡ (f (getD l i 0) && every f (drop (i + 1) l))
-    unfolding every
-    from h = rw (add-one, drop-cons l i 0 h)
+-- ---- the loop: what was seen of the values before place i, and the values from there on, decide
+pub record Seen (f : ℕ → Bool) (l : List ℕ) (i : ℕ) (seen : Bool) : Type 0 where
+  pub whole : every f l ≡ (seen && every f (drop i l))
 
-    pub fails : i < length l → f (getD l i 0) ≡ false → every f (drop i l) ≡ false
-    fails h e = from h ∙ rw e
+pub none-seen : (f : ℕ → Bool) (l : List ℕ) → Seen f l 0 true
+none-seen f l = record { whole = refl }
 
-    pub holds : i < length l → f (getD l i 0) ≡ true → every f (drop i l) ≡ every f (drop (i + 1) l)
-    holds h e = from h ∙ rw e
+module _ {f : ℕ → Bool} {l : List ℕ} {i : ℕ} {seen : Bool} (s : Seen f l i seen) where
+  pub one-more : i < length l → Seen f l (i + 1) (seen && f (getD l i 0))
+  unfolding every
+  one-more h =
+      record { whole = s .whole ∙ further seen (f (getD l i 0)) (every f (drop (i + 1) l)) (rw (add-one, drop-cons l i 0 h)) }
 
-    pub ended : length l ≤ i → every f (drop i l) ≡ true
-    unfolding every
-    ended h = rw (drop-of-length-le l h)
-
-    pub one-more : (all : Bool) → i < length l → (all && every f (drop i l)) ≡ ((all && f (getD l i 0)) && every f (drop (i + 1) l))
-    one-more all h = ap (λ (b : Bool). all && b) (from h) ∙ and-assoc all (f (getD l i 0)) (every f (drop (i + 1) l))
-
-    pub all-seen : (all : Bool) → length l ≤ i → (all && every f (drop i l)) ≡ all
-    all-seen all h = ap (λ (b : Bool). all && b) (ended h) ∙ and-true all
+  pub all-seen : length l ≤ i → every f l ≡ seen
+  unfolding every
+  all-seen h = s .whole ∙ at-end seen (rw (drop-of-length-le l h))

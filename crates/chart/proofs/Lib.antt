@@ -5,7 +5,7 @@ mod SpreadLaws
 mod SumLaws
 mod RoomLaws
 mod SevenLaws
+mod PairLaws
 mod WordLaws
-mod TestedLaws
-mod AnswerLaws
+mod ValidLaws
 pub mod Laws

@@ -2,7 +2,7 @@
 use mathlib.Core.Path.{_≡_, refl}
 use mathlib.Core.Bool.{true}
 use mathlib.Core.List.{List, [], _∷_}
-use Prim.Native.Nat.{ℕ, zero, suc, _+_, _-_, _*_, _^_, _≤_, _<_}
+use Prim.Native.Nat.{ℕ, zero, suc, _-_, _*_, _^_, _≤_, _<_}
 use native.Mathlib.Nat.{mul-le-mul}
 use native.Mathlib.Omega.{arith}
 use lib.ListN.{length, getD, take, drop}
@@ -10,9 +10,9 @@ use borrow.Author.Tests.{leb-true}
 use Rattle.refusal.proofs.Testing.{both}
 use Rattle.chart.specs.declared.setup.Setup.{Setup}
 use Rattle.chart.specs.Setups.{square, sumOf, squaresOf, setupOf, apart}
-use Rattle.chart.specs.Rules.{earlier, every}
+use Rattle.chart.specs.Rules.{every}
 use Rattle.chart.specs.Charts.{greatestValue, isValue, allValues, mostSetup}
-use Rattle.chart.specs.Room.{room, InRoom, prepared, HasRoom}
+use Rattle.chart.specs.Room.{room, mostLimit, limitOf, InRoom, prepared, HasRoom}
 use Rattle.chart.proofs.SpreadLaws.{never-negative}
 use Rattle.chart.proofs.SumLaws.{Summed, whole}
 
@@ -31,19 +31,16 @@ room-at [] i h = omega arith
 room-at (v ∷ l) zero h = h .0
 room-at (v ∷ l) (suc i) h = room-at l i (h .1)
 
-room-drop : (n : ℕ) (l : List ℕ) → InRoom l → InRoom (drop n l)
-room-drop zero l h = h
-room-drop (suc n) [] h = tt
-room-drop (suc n) (v ∷ l) h = room-drop n l (h .1)
-
 room-take : (n : ℕ) (l : List ℕ) → InRoom l → InRoom (take n l)
 room-take zero l h = tt
 room-take (suc n) [] h = tt
 room-take (suc n) (v ∷ l) h = (h .0, room-take n l (h .1))
 
--- the part that the rules of seven lend
-pub part-room : (l : List ℕ) (i : ℕ) → InRoom l → InRoom (take (i + 1 - (i - earlier)) (drop (i - earlier) l))
-part-room l i h = room-take (i + 1 - (i - earlier)) (drop (i - earlier) l) (room-drop (i - earlier) l h)
+-- a part that is lent
+pub room-part : (n k : ℕ) (l : List ℕ) → InRoom l → InRoom (take n (drop k l))
+room-part n zero l h = room-take n l h
+room-part n (suc k) [] h = room-take n [] tt
+room-part n (suc k) (v ∷ l) h = room-part n k l (h .1)
 
 -- ---- sums
 sum-most : (l : List ℕ) → InRoom l → sumOf l ≤ length l * room
@@ -56,55 +53,52 @@ unfolding squaresOf
 squares-most [] h = omega arith
 squares-most (v ∷ l) h = omega (arith, mul-le-mul (h .0) (h .0), squares-most l (h .1))
 
--- the setup made of a list
-pub has-room : (a : List ℕ) → 1 ≤ length a → length a ≤ mostSetup → InRoom a → HasRoom (prepared (setupOf a))
-has-room a some few h =
-    record {
-      some = some;
-      few = few;
-      sum = omega (arith, sum-most a h);
-      squares = omega (arith, squares-most a h);
-      spread = refl;
-    }
+-- n × (n×Q − S²), where n×Q is the greatest number on the way
+module _ (a : List ℕ) (h : (length a ≤ mostSetup) × InRoom a) where
+  product-most : length a * squaresOf a ≤ mostSetup * (mostSetup * square room)
+  product-most =
+      let most : squaresOf a ≤ mostSetup * square room = omega (arith, squares-most a (h .1)) in
+      mul-le-mul (h .0) most
 
--- ---- on the way to a setup
-module _ (a : List ℕ) (i : ℕ) {s q : ℕ} (given : (length a ≤ mostSetup) × InRoom a) (sums : Summed a i s q) where
+  limit-most : limitOf (setupOf a) ≤ mostLimit
+  limit-most =
+      let most : length a * squaresOf a - square (sumOf a) ≤ mostSetup * (mostSetup * square room) = omega (arith, product-most) in
+      mul-le-mul (h .0) most
+
+  -- the setup made of a list
+  pub has-room : 1 ≤ length a → HasRoom (prepared (setupOf a))
+  has-room some =
+      record { some = some; few = h .0; sum = omega (arith, sum-most a (h .1)); limit = refl; small = limit-most }
+
+-- on the way to it
+module _ {a : List ℕ} {i s q : ℕ} (sums : Summed a i s q) where
   pub sums-fit : (s < 2 ^ 64) × (q < 2 ^ 64)
-  sums-fit = (omega (arith, sums .sum, sum-most a (given .1)), omega (arith, sums .squares, squares-most a (given .1)))
+  sums-fit =
+      (omega (arith, sums .room .0, sums .sum, sum-most a (sums .room .1)), omega (arith, sums .room .0, sums .squares, squares-most a (sums .room .1)))
 
-  -- n×Q and S²
-  pub spread-fits : length a ≤ i → (length a * q < 2 ^ 64) × (s * s ≤ length a * q)
-  spread-fits h =
-      let most : squaresOf a ≤ mostSetup * square room = omega (arith, squares-most a (given .1)) in
-      let all = whole a i sums h in
-      rw (all .0, all .1) (omega (arith, mul-le-mul (given .0) most), never-negative a)
+  pub limit-fits : length a ≤ i → (length a * q < 2 ^ 64) × (s * s ≤ length a * q) × (length a * (length a * q - s * s) < 2 ^ 64)
+  limit-fits end =
+      let all = whole sums end in
+      rw (all .0, all .1) (omega (arith, product-most a (sums .room)), never-negative a, omega (arith, limit-most a (sums .room)))
 
 -- ---- a value against a setup
-module _ (f : Setup) (g : HasRoom f) where
-  module _ (v : ℕ) (h : v ≤ room) where
-    pub times-most : f .n * v ≤ mostSetup * room
-    times-most = omega (arith, mul-le-mul (g .few) h)
+pub times-most : {n v : ℕ} → n ≤ mostSetup → v ≤ room → n * v ≤ mostSetup * room
+times-most few h = mul-le-mul few h
 
-    module _ (gap : ℕ) (e : gap ≡ apart (f .n * v) (f .sum)) where
-      pub gap-most : gap * gap ≤ square (mostSetup * room)
-      gap-most =
-          let b : gap ≤ mostSetup * room = omega (arith, times-most, g .sum) in
-          omega (arith, mul-le-mul b b)
+pub square-most : {k : ℕ} → k ≤ 3 → k * k ≤ 9
+square-most h = mul-le-mul h h
 
-      pub right-fits : gap * gap * (f .n - 1) < 2 ^ 64
-      right-fits =
-          let b : f .n - 1 ≤ mostSetup = omega (arith, g .few) in
-          omega (arith, mul-le-mul gap-most b)
+module _ {f : Setup} (g : HasRoom f) where
+  pub left-fits : {k : ℕ} → k ≤ 3 → k * k * f .limit < 2 ^ 64
+  left-fits h = omega (arith, mul-le-mul (square-most h) (g .small))
 
-  module _ (k : ℕ) (h : k ≤ 3) where
-    pub square-most : k * k ≤ 9
-    square-most = omega (arith, mul-le-mul h h)
+  module _ {v gap : ℕ} (h : v ≤ room) (e : gap ≡ apart (f .n * v) (f .sum)) where
+    pub gap-most : gap * gap ≤ square (mostSetup * room)
+    gap-most =
+        let b : gap ≤ mostSetup * room = omega (arith, times-most (g .few) h, g .sum) in
+        mul-le-mul b b
 
-    pub square-times-most : k * k * f .n ≤ 9 * mostSetup
-    square-times-most = omega (arith, mul-le-mul square-most (g .few))
-
-    pub left-fits : k * k * f .n * f .spread < 2 ^ 64
-    left-fits =
-        let q : f .n * f .squares ≤ mostSetup * (mostSetup * square room) = omega (arith, mul-le-mul (g .few) (g .squares)) in
-        let b : f .spread ≤ mostSetup * (mostSetup * square room) = omega (arith, g .spread) in
-        omega (arith, mul-le-mul square-times-most b)
+    pub right-fits : gap * gap * (f .n - 1) < 2 ^ 64
+    right-fits =
+        let b : f .n - 1 ≤ mostSetup = omega (arith, g .few) in
+        omega (arith, mul-le-mul gap-most b)

@@ -1,11 +1,10 @@
 -- The signal words as a loop writes them, one a turn, to the front of a slice; and the last of them.
 use mathlib.Core.Path.{_≡_, refl, sym, _∙_}
-use mathlib.Core.List.{List, [], _∷_, _++_}
+use mathlib.Core.List.{List, [], _++_}
 use Prim.Native.Nat.{ℕ, zero, suc, _+_, _-_, _≤_, _<_}
-use native.Mathlib.Decide.{decLt}
 use native.Mathlib.Numerals.{add-one}
 use native.Mathlib.Omega.{arith}
-use lib.ListN.{length, getD, drop, set, length-append, List·getD-append, List·getD-eq-default}
+use lib.ListN.{length, getD, drop, set, length-append, List·getD-eq-default}
 use lib.Seq.{drop-cons, set-at, append-snoc, getD-at}
 use Rattle.chart.specs.Setups.{SetupTerms, setupOf}
 use Rattle.chart.specs.Rules.{signalAt}
@@ -35,20 +34,13 @@ module _ (f : SetupTerms) (l : List ℕ) where
       )
       (sym (append-snoc (firstWords f l i) (signalAt f l i) (drop (suc i) old)))
 
-  -- ---- the word at a place
-  first-at : (k i : ℕ) → i < k → getD (firstWords f l k) i 0 ≡ signalAt f l i
+  -- ---- the last of them
+  last-at : (k : ℕ) → 1 ≤ k → getD (firstWords f l k) (k - 1) 0 ≡ signalAt f l (k - 1)
   unfolding firstWords
-  first-at zero i h = absurd (omega arith)
-  first-at (suc k) i h = go (decLt i k) (first-at k i)
-    where
-      go : Dec (i < k) → (i < k → getD (firstWords f l k) i 0 ≡ signalAt f l i)
-          → getD (firstWords f l k ++ (signalAt f l k ∷ [])) i 0 ≡ signalAt f l i
-      go (yes b) before =
-          let n : i < length (firstWords f l k) = omega (arith, length-first k) in
-          List·getD-append (firstWords f l k) (signalAt f l k ∷ []) 0 i n ∙ before b
-      go (no b) before =
-          let e : i ≡ k = omega arith in
-          rw e (getD-at (firstWords f l k) (signalAt f l k) [] 0 k (length-first k))
+  last-at zero h = absurd (omega arith)
+  last-at (suc k) h =
+      let e : suc k - 1 ≡ k = omega arith in
+      rw e (getD-at (firstWords f l k) (signalAt f l k) [] 0 k (length-first k))
 
 module _ (a l : List ℕ) where
   pub length-words : length (signalWords a l) ≡ length l
@@ -60,10 +52,10 @@ module _ (a l : List ℕ) where
   unfolding signalWords
   all-written old out i e p = rw (length-words) (rw e at p)
 
+  pub last-is : 1 ≤ length l → signalAt (setupOf a) l (length l - 1) ≡ lastWord a l
+  unfolding lastWord signalWords
+  last-is h = sym (last-at (setupOf a) l (length l) h)
+
   pub no-last : length l ≡ 0 → 0 ≡ lastWord a l
   unfolding lastWord
   no-last e = sym (List·getD-eq-default (signalWords a l) 0 {n = length l - 1} (omega (arith, length-words)))
-
-  pub last-is : 1 ≤ length l → signalAt (setupOf a) l (length l - 1) ≡ lastWord a l
-  unfolding lastWord signalWords
-  last-is h = sym (first-at (setupOf a) l (length l) (length l - 1) (omega arith))

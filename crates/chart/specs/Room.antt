@@ -10,20 +10,27 @@ use Rattle.chart.specs.Charts.{mostSetup}
 abbrev pub room : ℕ
 room = 2_000_000
 
+-- n × (n×Q − S²) of such values is at most
+abbrev pub mostLimit : ℕ
+mostLimit = mostSetup * (mostSetup * (mostSetup * square room))
+
 abbrev pub InRoom : List ℕ → Type 0
 InRoom [] = Unit {0}
 InRoom (v ∷ values) = (v ≤ room) × InRoom values
 
--- the code's setup: n, S and Q, and n×Q − S² beside them
+-- the code's setup: n, S and Q, and the limit at one deviation beside them
 abbrev pub termsOf : Setup → SetupTerms
 termsOf f = record { n = f .n; S = f .sum; Q = f .squares }
 
+abbrev pub limitOf : SetupTerms → ℕ
+limitOf f = f .n * (f .n * f .Q - square (f .S))
+
 abbrev pub prepared : SetupTerms → Setup
-prepared f = record { n = f .n; sum = f .S; squares = f .Q; spread = f .n * f .Q - square (f .S) }
+prepared f = record { n = f .n; sum = f .S; squares = f .Q; limit = limitOf f }
 
 pub record HasRoom (f : Setup) : Type 0 where
   pub some : 1 ≤ f .n
   pub few : f .n ≤ mostSetup
   pub sum : f .sum ≤ mostSetup * room
-  pub squares : f .squares ≤ mostSetup * square room
-  pub spread : f .spread ≡ f .n * f .squares - square (f .sum)
+  pub limit : f .limit ≡ limitOf (termsOf f)
+  pub small : f .limit ≤ mostLimit

@@ -5,11 +5,8 @@ use mathlib.Core.List.{List, [], _∷_}
 use Prim.Native.Nat.{ℕ, _+_, _-_}
 use lib.Dec.{leb, ltb}
 use lib.ListN.{getD, take, drop}
-use Rattle.chart.specs.declared.deviations.Side.{Side}
-use Rattle.chart.specs.declared.deviations.Side.the-variants.{Above, Below}
-use Rattle.chart.specs.declared.rules.Course.{Course}
-use Rattle.chart.specs.declared.rules.Course.the-variants.{Rising, Falling}
-use Rattle.chart.specs.Setups.{SetupTerms, beyond, onSide}
+use Rattle.chart.specs.Setups.{SetupTerms, Side, beyond, onSide}
+use Rattle.chart.specs.Setups.Side.{Above, Below}
 
 -- ---- '1: beyond 3.'
 unfoldable pub beyondThree : SetupTerms → List ℕ → ℕ → Bool
@@ -46,6 +43,10 @@ unfoldable pub sevenOnOneSide : SetupTerms → List ℕ → ℕ → Bool
 sevenOnOneSide f later i = leb earlier i && (every (onSide f Above) (seven later i) || every (onSide f Below) (seven later i))
 
 -- ---- '8: these seven strictly rising, or strictly falling.'
+pub data Course : Type 0 where
+  Rising : Course
+  Falling : Course
+
 abbrev pub inStep : Course → ℕ → ℕ → Bool
 inStep Rising x y = ltb x y
 inStep Falling x y = ltb y x

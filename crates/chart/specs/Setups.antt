@@ -4,8 +4,6 @@ use mathlib.Core.List.{List, [], _∷_}
 use Prim.Native.Nat.{ℕ, _+_, _-_, _*_, _≤_}
 use lib.Dec.{ltb}
 use lib.ListN.{length}
-use Rattle.chart.specs.declared.deviations.Side.{Side}
-use Rattle.chart.specs.declared.deviations.Side.the-variants.{Above, Below}
 
 abbrev pub square : ℕ → ℕ
 square x = x * x
@@ -40,6 +38,10 @@ unfoldable pub beyond : SetupTerms → ℕ → ℕ → Bool
 beyond f k v = ltb (square k * f .n * (f .n * f .Q - square (f .S))) (square (apart (f .n * v) (f .S)) * (f .n - 1))
 
 -- 'The mean is S/n; a value's side is above or below it.' v against S/n is n×v against S; a value on the mean has no side
+pub data Side : Type 0 where
+  Above : Side
+  Below : Side
+
 abbrev pub onSide : SetupTerms → Side → ℕ → Bool
 onSide f Above v = ltb (f .S) (f .n * v)
 onSide f Below v = ltb (f .n * v) (f .S)

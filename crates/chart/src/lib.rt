@@ -67,11 +67,5 @@ pub fn last_signal(setup: &[u32], later: &[u32]) -> Last
 pub fn counts_fit(setup: usize, later: usize) -> bool
     ensures { λ r. ⌜ r ≡ countsFit setup later ⌝ }
 {
-    if setup < LEAST_SETUP {
-        return false;
-    }
-    if setup > MOST_SETUP {
-        return false;
-    }
-    later <= MOST_LATER
+    (LEAST_SETUP <= setup) & ((setup <= MOST_SETUP) & (later <= MOST_LATER))
 }

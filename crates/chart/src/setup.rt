@@ -6,19 +6,19 @@ ghost use Rattle.chart.specs.Setups.{setupOf};
 ghost use Rattle.chart.specs.Charts.{mostSetup};
 ghost use Rattle.chart.specs.Room.{InRoom, prepared};
 
-// How many values, their sum and the sum of their squares: n, S and Q of document 01; and n×Q − S².
+// How many values, their sum and the sum of their squares: n, S and Q of document 01; and the limit at one deviation,
+// n × (n×Q − S²).
 pub struct Setup {
     pub n: u64,
     pub sum: u64,
     pub squares: u64,
-    pub spread: u64,
+    pub limit: u64,
 }
 
 pub fn of_values(values: &[u32]) -> Setup
     requires { ⌜ (length (now values) ≤ mostSetup) × InRoom (now values) ⌝ }
     ensures { λ r. ⌜ r ≡ prepared (setupOf (now (values .entry))) ⌝ }
 {
-    let n = values.len() as u64;
     let mut sum: u64 = 0;
     let mut squares: u64 = 0;
     let mut i: usize = 0;
@@ -28,16 +28,18 @@ pub fn of_values(values: &[u32]) -> Setup
         squares += v * v;
         i += 1;
     }
-    let spread = n * squares - sum * sum;
+    let n = values.len() as u64;
+    let limit = n * (n * squares - sum * sum);
     Setup {
         n: n,
         sum: sum,
         squares: squares,
-        spread: spread,
+        limit: limit,
     }
 }
 
-fn wide(value: u32) -> u64
+// In a call of its own, so that who reads a value has only to show that the index is in range.
+pub fn wide(value: u32) -> u64
     ensures { λ r. ⌜ r ≡ value ⌝ }
 {
     value as u64

@@ -2,9 +2,8 @@
 use crate::counts_fit;
 use refusal::Refusal;
 ghost use mathlib.Core.Path.{_≡_};
-ghost use Rattle.refusal.specs.Outcome.Outcome.{given};
-ghost use Rattle.chart.specs.Charts.{allValues, tested};
-ghost use Rattle.chart.specs.Tested.{testedOutcome};
+ghost use Rattle.chart.specs.Charts.{allValues};
+ghost use Rattle.chart.specs.Tested.{TestedSaid};
 
 // In µg/L.
 const GREATEST_VALUE: u32 = 200000;
@@ -15,15 +14,12 @@ pub enum Tested {
 }
 
 pub fn test(setup: &[u32], later: &[u32]) -> Tested
-    ensures { λ r. ⌜ testedOutcome r ≡ tested (now (setup .entry)) (now (later .entry)) (given tt) ⌝ }
+    ensures { λ r. ⌜ TestedSaid r (now (setup .entry)) (now (later .entry)) ⌝ }
 {
     if !counts_fit(setup.len(), later.len()) {
         return Tested::Refused(Refusal::Count);
     }
-    if !are_values(setup) {
-        return Tested::Refused(Refusal::Chart);
-    }
-    if !are_values(later) {
+    if !(are_values(setup) & are_values(later)) {
         return Tested::Refused(Refusal::Chart);
     }
     Tested::Accepted

@@ -5,7 +5,7 @@ use mathlib.Core.List.{List}
 use Prim.Native.Nat.{ℕ, zero, suc, _+_, _*_, _<_}
 use native.Mathlib.Omega.{arith}
 use Rattle.record.specs.declared.Analyte.{Analyte}
-use Rattle.record.specs.Record.{readings, readingAt, present, kindOf, allBelow, massAt}
+use Rattle.record.specs.Record.{readings, readingAt, present, allBelow, massAt}
 use Rattle.record.specs.declared.TestedRecord.{TestedRecord}
 use Rattle.record.specs.Tested.{analyteAt, Holds}
 use Rattle.record.proofs.MassLaws.{mass-most}

@@ -1,5 +1,4 @@
 // The conductivity that the ions account for, against the measured one.
-use crate::Charge;
 use crate::Conductivity;
 use crate::Verdict;
 use crate::checks::Hydrogen;

@@ -2,9 +2,7 @@
 use mathlib.Core.Path.{sym, ap, _∙_}
 use native.Mathlib.Omega.{arith}
 use Rattle.refusal.specs.Outcome.Outcome.{given}
-use Rattle.chart.specs.Charts.{lastSignalOf}
-use Rattle.chart.proofs.AnswerLaws.{last-given}
-use Rattle.chart.proofs.TestedLaws.{accepted-valid, refused-for-all, setup-in-room, later-in-room, setup-most, setup-has-room}
+use Rattle.chart.proofs.ValidLaws.{setup-in-room, later-in-room, setup-has-room, last-given}
 use Rattle.chart.proofs.WordLaws.{no-last, last-is}
 use borrow.Author.Needs.{needs}
 use Rattle.chart.proofs.last_signal.Statement.{statement}
@@ -17,8 +15,7 @@ enum-known-why : tie.Need-enum-known-why
 enum-known-why c = search needs
 
 returns : tie.Need-returns
-unfolding lastSignalOf
-returns c = refused-for-all _ _ (c .before .before .before .test .ensures) (c .before .why .given .1) _
+returns c = sym ((rw (c .before .why .given .1) at (c .before .before .before .test .ensures)) .1)
 
 enum-told : tie.Need-enum-told
 enum-told c = search needs
@@ -26,14 +23,13 @@ enum-told c = search needs
 returns-2 : tie.Need-returns-2
 returns-2 c =
     let told = c .before in
-    let valid = accepted-valid _ _ (told .before .before .test .ensures) (told .enum-told .given .1) in
-    ap given (no-last _ _ (c .if1 .taken)) ∙ sym (last-given _ _ valid)
+    let valid = rw (told .enum-told .given .1) at (told .before .before .test .ensures) in
+    ap given (no-last _ _ (c .if1 .taken)) ∙ sym (last-given valid)
 
 of-values-requires : tie.Need-of-values-requires
 of-values-requires c κs =
     let told = c .before in
-    let valid = accepted-valid _ _ (told .before .before .test .ensures) (told .enum-told .given .1) in
-    (setup-most valid, setup-in-room valid)
+    setup-in-room (rw (told .enum-told .given .1) at (told .before .before .test .ensures))
 
 sub-word : tie.Need-sub-word
 sub-word c = search needs
@@ -41,16 +37,16 @@ sub-word c = search needs
 word-requires : tie.Need-word-requires
 word-requires c κs =
     let told = c .before .before in
-    let valid = accepted-valid _ _ (told .before .before .test .ensures) (told .enum-told .given .1) in
+    let valid = rw (told .enum-told .given .1) at (told .before .before .test .ensures) in
     (rw (c .of-values .ensures) (setup-has-room valid), (omega arith, later-in-room valid))
 
 returns-3 : tie.Need-returns-3
 returns-3 c =
     let made = c .before in
     let told = made .before .before in
-    let valid = accepted-valid _ _ (told .before .before .test .ensures) (told .enum-told .given .1) in
+    let valid = rw (told .enum-told .given .1) at (told .before .before .test .ensures) in
     let word = rw (made .of-values .ensures) at (c .word .ensures) in
-    ap given (word ∙ last-is _ _ (search needs)) ∙ sym (last-given _ _ valid)
+    ap given (word ∙ last-is _ _ (search needs)) ∙ sym (last-given valid)
 
 pub last-signal-spec : {M : Type 1} → statement M
 last-signal-spec =

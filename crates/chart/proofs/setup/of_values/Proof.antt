@@ -1,22 +1,21 @@
 -- After i turns the sums and those of the values from place i on make the whole sums, whose bounds are known.
-use native.Mathlib.Nat.{mul-le-mul}
 use native.Mathlib.Omega.{arith}
 use Prim.Native.Nat.{_-_}
 use lib.ListN.{length}
-use Rattle.chart.proofs.RoomLaws.{room-at, sums-fit, spread-fits}
+use Rattle.chart.proofs.RoomLaws.{sums-fit, limit-fits}
 use Rattle.chart.proofs.SumLaws.{Summed, none, one-more, whole}
 use borrow.Author.Needs.{needs}
 use Rattle.chart.proofs.setup.of_values.Statement.{statement}
 use Rattle.chart.proofs.setup.of_values.Tie as tie
 
 abbrev Inv-loop : tie.InvT-loop
-Inv-loop values n sum₀ squares₀ i₀ sum squares i = Summed values i sum squares
+Inv-loop values sum₀ squares₀ i₀ sum squares i = Summed values i sum squares
 
 abbrev μ-loop : tie.MeasureT-loop
-μ-loop values n sum₀ squares₀ i₀ sum squares i = length values - i
+μ-loop values sum₀ squares₀ i₀ sum squares i = length values - i
 
 loop-holds : tie.Need-loop-holds Inv-loop μ-loop
-loop-holds c = none _
+loop-holds c = none (c .before .pre)
 
 mul-wide : tie.Need-mul-wide Inv-loop μ-loop
 mul-wide c = search needs
@@ -30,25 +29,17 @@ wide-requires c κs = search needs
 add-sum : tie.Need-add-sum Inv-loop μ-loop
 add-sum c =
     let turn = c .before .before in
-    let at = turn .before in
-    let S = at .before .before in
-    let a = S .args .values .now in
-    omega (arith, sums-fit a _ (S .pre) (one-more a (at .loop .i) (at .loop .inv) (turn .loop-test .taken) (c .wide .ensures)))
+    omega (arith, sums-fit (one-more (turn .before .loop .inv) (turn .loop-test .taken) (c .wide .ensures)))
 
 mul-squares : tie.Need-mul-squares Inv-loop μ-loop
 mul-squares c =
-    let at = c .before .before .before in
-    let S = at .before .before in
-    let most = room-at (S .args .values .now) (at .loop .i) (S .pre .1) in
-    rw (c .wide .ensures) (omega (arith, mul-le-mul most most))
+    let turn = c .before .before in
+    omega (arith, sums-fit (one-more (turn .before .loop .inv) (turn .loop-test .taken) (c .wide .ensures)))
 
 add-squares : tie.Need-add-squares Inv-loop μ-loop
 add-squares c =
     let turn = c .before .before in
-    let at = turn .before in
-    let S = at .before .before in
-    let a = S .args .values .now in
-    omega (arith, sums-fit a _ (S .pre) (one-more a (at .loop .i) (at .loop .inv) (turn .loop-test .taken) (c .wide .ensures)))
+    omega (arith, sums-fit (one-more (turn .before .loop .inv) (turn .loop-test .taken) (c .wide .ensures)))
 
 add-i : tie.Need-add-i Inv-loop μ-loop
 add-i c = search needs
@@ -59,32 +50,22 @@ loop-less c = search needs
 loop-again : tie.Need-loop-again Inv-loop μ-loop
 loop-again c =
     let turn = c .before .before in
-    let at = turn .before in
-    one-more _ (at .loop .i) (at .loop .inv) (turn .loop-test .taken) (c .wide .ensures)
+    one-more (turn .before .loop .inv) (turn .loop-test .taken) (c .wide .ensures)
 
-mul-spread : tie.Need-mul-spread Inv-loop μ-loop
-mul-spread c =
-    let at = c .before in
-    let S = at .before .before in
-    omega (arith, spread-fits (S .args .values .now) (at .loop .i) (S .pre) (at .loop .inv) (c .loop-test .left))
+mul-limit : tie.Need-mul-limit Inv-loop μ-loop
+mul-limit c = omega (arith, limit-fits (c .before .loop .inv) (c .loop-test .left))
 
-mul-spread-2 : tie.Need-mul-spread-2 Inv-loop μ-loop
-mul-spread-2 c =
-    let at = c .before in
-    let S = at .before .before in
-    omega (arith, spread-fits (S .args .values .now) (at .loop .i) (S .pre) (at .loop .inv) (c .loop-test .left))
+mul-limit-2 : tie.Need-mul-limit-2 Inv-loop μ-loop
+mul-limit-2 c = omega (arith, limit-fits (c .before .loop .inv) (c .loop-test .left))
 
-sub-spread : tie.Need-sub-spread Inv-loop μ-loop
-sub-spread c =
-    let at = c .before in
-    let S = at .before .before in
-    spread-fits (S .args .values .now) (at .loop .i) (S .pre) (at .loop .inv) (c .loop-test .left) .1
+sub-limit : tie.Need-sub-limit Inv-loop μ-loop
+sub-limit c = omega (arith, limit-fits (c .before .loop .inv) (c .loop-test .left))
+
+mul-limit-3 : tie.Need-mul-limit-3 Inv-loop μ-loop
+mul-limit-3 c = omega (arith, limit-fits (c .before .loop .inv) (c .loop-test .left))
 
 returns : tie.Need-returns Inv-loop μ-loop
-returns c =
-    let at = c .before in
-    let sums = whole (at .before .before .args .values .now) (at .loop .i) (at .loop .inv) (c .loop-test .left) in
-    cc (sums .0, sums .1)
+returns c = let sums = whole (c .before .loop .inv) (c .loop-test .left) in cc (sums .0, sums .1)
 
 pub of-values-spec : {M : Type 1} → statement M
 of-values-spec =
@@ -102,7 +83,8 @@ of-values-spec =
     add-i
     loop-less
     loop-again
-    mul-spread
-    mul-spread-2
-    sub-spread
+    mul-limit
+    mul-limit-2
+    sub-limit
+    mul-limit-3
     returns)

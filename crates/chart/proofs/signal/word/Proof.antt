@@ -1,59 +1,65 @@
 -- Each rule adds its number.
-use Rattle.chart.specs.Rules.{signalAt}
+use mathlib.Core.Path.{sym}
+use native.Mathlib.Omega.{arith}
+use native.Mathlib.Nat.{add-assoc}
+use Rattle.chart.specs.Rules.{beyondThree, signalAt}
+use Rattle.chart.proofs.RoomLaws.{room-at}
 use borrow.Author.Needs.{needs}
 use Rattle.chart.proofs.signal.word.Statement.{statement}
 use Rattle.chart.proofs.signal.word.Tie as tie
 
-beyond-three-requires : tie.Need-beyond-three-requires
-beyond-three-requires c κs = search needs
+mul-beyond : tie.Need-mul-beyond
+mul-beyond c = search needs
+
+shared-slice-read-beyond : tie.Need-shared-slice-read-beyond
+shared-slice-read-beyond c = search needs
+
+beyond-requires : tie.Need-beyond-requires
+beyond-requires c κs =
+    let S = c .before .before in
+    (S .pre .0, (omega arith, room-at (S .args .later .now) (S .args .i) (S .pre .1 .1)))
 
 weight-requires : tie.Need-weight-requires
 weight-requires c κs = search needs
 
 pair-beyond-two-requires : tie.Need-pair-beyond-two-requires
-pair-beyond-two-requires c κs = search needs
+pair-beyond-two-requires c κs = c .before .before .before .before .pre
 
 weight-requires-2 : tie.Need-weight-requires-2
 weight-requires-2 c κs = search needs
 
-seven-on-one-side-requires : tie.Need-seven-on-one-side-requires
-seven-on-one-side-requires c κs = search needs
-
-weight-requires-3 : tie.Need-weight-requires-3
-weight-requires-3 c κs = search needs
-
-seven-in-order-requires : tie.Need-seven-in-order-requires
-seven-in-order-requires c κs = search needs
-
-weight-requires-4 : tie.Need-weight-requires-4
-weight-requires-4 c κs = search needs
-
 add-result : tie.Need-add-result
-add-result c = search needs
+add-result c = omega (arith, c .before .before .weight .ensures .1, c .weight2 .ensures .1)
+
+of-seven-requires : tie.Need-of-seven-requires
+of-seven-requires c κs = c .before .before .before .before .before .before .pre
 
 add-result-2 : tie.Need-add-result-2
-add-result-2 c = search needs
-
-add-result-3 : tie.Need-add-result-3
-add-result-3 c = search needs
+add-result-2 c =
+    let two = c .before in
+    omega (arith, two .before .before .weight .ensures .1, two .weight2 .ensures .1, c .of-seven .ensures .1)
 
 returns : tie.Need-returns
-unfolding signalAt
-returns c = cc
+unfolding signalAt beyondThree
+returns c =
+    let two = c .before in
+    let pair = two .before in
+    let one = pair .before in
+    let three = one .before in
+    rw (← three .beyond .ensures, ← pair .pair-beyond-two .ensures, ← one .weight .ensures .0, ← two .weight2 .ensures .0, c .of-seven .ensures .0)
+    (sym (add-assoc _ _ _))
 
 pub word-spec : {M : Type 1} → statement M
 word-spec =
     tie.close
     (tie.spec
-    beyond-three-requires
+    mul-beyond
+    shared-slice-read-beyond
+    beyond-requires
     weight-requires
     pair-beyond-two-requires
     weight-requires-2
-    seven-on-one-side-requires
-    weight-requires-3
-    seven-in-order-requires
-    weight-requires-4
     add-result
+    of-seven-requires
     add-result-2
-    add-result-3
     returns)

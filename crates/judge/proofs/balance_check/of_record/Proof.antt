@@ -3,7 +3,6 @@ use mathlib.Core.Path.{refl, ap, _∙_}
 use Prim.Native.Nat.{ℕ, _+_}
 use Rattle.refusal.proofs.Testing.{failed, passed}
 use borrow.Author.Tests.{not-true, not-false}
-use Rattle.judge.specs.IonBalance.{balanceWindow}
 use Rattle.judge.proofs.Deciding.{same-sums}
 use borrow.Author.Needs.{needs}
 use Rattle.judge.proofs.balance_check.of_record.Statement.{statement}

@@ -1,5 +1,5 @@
 -- Each return is what the definition picks by which readings are there.
-use mathlib.Core.Path.{ap, _∙_}
+use mathlib.Core.Path.{ap}
 use mathlib.Core.Bool.{not}
 use Rattle.refusal.proofs.Testing.{failed, passed}
 use borrow.Author.Needs.{needs}

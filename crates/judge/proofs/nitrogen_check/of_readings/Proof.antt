@@ -1,6 +1,5 @@
 -- Each return is what the definition gives by the tests on the way.
 use mathlib.Core.Path.{refl, _∙_}
-use native.Mathlib.Omega.{arith}
 use Rattle.refusal.proofs.Testing.{failed, passed}
 use Rattle.judge.specs.Ratios.{nitrogenWindow}
 use Rattle.judge.proofs.Deciding.{same-sums}

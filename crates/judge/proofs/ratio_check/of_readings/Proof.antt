@@ -1,6 +1,5 @@
 -- Each return is what the definition gives by the tests on the way.
 use mathlib.Core.Path.{_∙_}
-use native.Mathlib.Omega.{arith}
 use borrow.Author.Tests.{eq-eqb, ne-eqb}
 use Rattle.refusal.proofs.Testing.{failed, passed}
 use Rattle.judge.specs.Ratios.{sodiumChlorideWindow}

@@ -1,5 +1,4 @@
 -- By whether all ten are readings.
-use mathlib.Core.Path.{sym, _∙_}
 use borrow.Author.Tests.{not-false}
 use Rattle.refusal.proofs.Testing.{failed, passed}
 use Rattle.record.proofs.TestedLaws.{refusing}
