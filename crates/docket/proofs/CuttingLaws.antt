@@ -36,39 +36,28 @@ next (w ∷ s) h =
     ap (λ (t : List (List ℕ)). take recordWords (w ∷ s) ∷ t) (enough (length s) (length rest) rest (omega arith) (omega arith))
 
 module _ (s : List ℕ) (at : ℕ) where
-  abbrev rest : List ℕ
-  rest = drop at s
-
-  -- the words of the record that starts at a place, and what comes after them
-  words-by : Dec (at + recordWords ≤ length s) → take (endOf at (length s) - at) rest ≡ take recordWords rest
-  words-by (yes h) =
+  -- the words of the record that starts at a place
+  cut-by : Dec (at + recordWords ≤ length s) → take (endOf at (length s) - at) (drop at s) ≡ take recordWords (drop at s)
+  cut-by (yes h) =
       let e : endOf at (length s) - at ≡ recordWords = omega arith in
-      ap (λ (n : ℕ). take n rest) e
-  words-by (no h) =
-      let l : length rest ≡ length s - at = length-drop at s in
-      take-all (endOf at (length s) - at) rest (omega arith) ∙ sym (take-all recordWords rest (omega arith))
+      rw e
+  cut-by (no h) =
+      let l : length (drop at s) ≡ length s - at = length-drop at s in
+      take-all (endOf at (length s) - at) (drop at s) (omega arith) ∙ sym (take-all recordWords (drop at s) (omega arith))
 
-  after-by : Dec (at + recordWords ≤ length s) → drop recordWords rest ≡ drop (endOf at (length s)) s
-  after-by (yes h) =
-      let e : at + recordWords ≡ endOf at (length s) = omega arith in
-      drop-drop recordWords at s ∙ ap (λ (n : ℕ). drop n s) e
-  after-by (no h) =
-      drop-drop recordWords at s
-      ∙ drop-of-length-le s {i = at + recordWords} (omega arith)
-      ∙ sym (drop-of-length-le s {i = endOf at (length s)} (omega arith))
+  pub cut : (end : ℕ) → end ≡ endOf at (length s) → take (end - at) (drop at s) ≡ take recordWords (drop at s)
+  cut end e = rw e (cut-by (decLe (at + recordWords) (length s)))
 
   -- one turn: the record that starts here is offered, and the others are left
-  pub turn : (d after : DocketTerms) (end : ℕ) → at < length s → end ≡ endOf at (length s)
-      → after ≡ offerOf d (take (end - at) rest) .docket
-      → docketAfter after (records (drop end s)) ≡ docketAfter d (records rest)
+  pub turn : (d after : DocketTerms) → at < length s → after ≡ offerOf d (take recordWords (drop at s)) .docket
+      → docketAfter after (records (drop (at + recordWords) s)) ≡ docketAfter d (records (drop at s))
   unfolding docketAfter
-  turn d after end h e o =
-      let l : length rest ≡ length s - at = length-drop at s in
-      let some : 0 < length rest = omega arith in
-      let whole : Dec (at + recordWords ≤ length s) = decLe (at + recordWords) (length s) in
-      rw (next rest some, o, e, words-by whole, after-by whole)
+  turn d after h o =
+      let l : length (drop at s) ≡ length s - at = length-drop at s in
+      let some : 0 < length (drop at s) = omega arith in
+      rw (next (drop at s) some, o, drop-drop recordWords at s)
 
   -- after the last
-  pub ended : (d : DocketTerms) → length s ≤ at → docketAfter d (records rest) ≡ d
+  pub ended : (d : DocketTerms) → length s ≤ at → docketAfter d (records (drop at s)) ≡ d
   unfolding docketAfter records firstRecords
   ended d h = rw (drop-of-length-le s h)

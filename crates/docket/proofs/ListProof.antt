@@ -7,7 +7,7 @@ use native.Mathlib.Omega.{arith}
 use lib.Dec.{ltb, leb, eqb}
 use lib.ListN.{length}
 use borrow.Author.Tests.{ne-eqb, lt-ltb, lt-leb, le-leb, eqb-true, eqb-false}
-use Rattle.refusal.specs.Outcome.{Outcome, demand}
+use Rattle.refusal.specs.Outcome.{Outcome}
 use Rattle.refusal.specs.Outcome.Outcome.{given, refused}
 use Rattle.judge.specs.Record.{isGiven, sameSampleOf}
 use Rattle.judge.specs.Judgements.{Four, judgementOf}
@@ -18,7 +18,7 @@ use Rattle.docket.specs.Passing.{passed}
 use Rattle.docket.specs.Offers.{admits, isOneSample, answerBy, answerOf, standingAfter, isConfirming, offerBy, offerOf}
 use Rattle.docket.specs.Plain.{lastOf, beforeLast, plainState, plainAnswerBy, plainAnswer, tookBy, tookNext, plainAfter, plainAnswers}
 use Rattle.docket.specs.Following.{Fresh, docketAfter, docketAnswers, takenIn, ListTheorem}
-use Rattle.refusal.proofs.Outcomes.{never}
+use Rattle.docket.proofs.TakenLaws.{taken-accepted, taken-fewer}
 use Rattle.docket.proofs.PlainLaws.{length-more, last-more, before-more, open-is, open-fewer, consistent-when, confirmed-when, unsettled-when}
 
 -- the docket d is where the plain docket that took these records is
@@ -96,32 +96,21 @@ module _ (d : DocketTerms) (took : List (List ℕ)) (t : Tracks d took) where
         )
 
     -- the docket after an offer
-    passing : (opened same : Bool) (n m : ℕ) → demand opened n (demand same m (given taken)) ≡ given taken → opened ≡ true
-    passing true same n m e = refl
-    passing false same n m e = never e
-
-    was-open : (o : Outcome Four) → plainAnswerBy took s o ≡ given taken → (isGiven o ≡ true) × (isOpen (plainState took) ≡ true)
-    unfolding plainAnswerBy
-    was-open (given v) e = (refl, passing (isOpen (plainState took)) (eqb (length took) 0 || sameSampleOf (lastOf took) s) _ _ e)
-    was-open (refused n) e = never e
-
-    next-by : (a : Outcome Reply) → plainAnswer took s ≡ a → Tracks (offerBy d s a .docket) (tookBy took s a)
-    unfolding offerBy tookBy plainAnswer
+    next-by : (a : Outcome Reply) → answerOf d s ≡ a → Tracks (offerBy d s a .docket) (tookBy took s a)
+    unfolding offerBy tookBy
     next-by (given taken) e =
-        let w = was-open (judgementOf s) e in
-        let l : length took < mostTaken = open-below took (t .most) (w .1) in
         record {
           state = state-same;
           count = omega (arith, t .count, length-more took s);
-          most = omega (arith, length-more took s);
+          most = omega (arith, t .count, length-more took s, taken-fewer d s e);
           held = λ _. sym (last-more took s);
-          accepted = λ _. rw (last-more took s) (w .0);
+          accepted = λ _. rw (last-more took s) (taken-accepted d s e);
         }
     next-by (refused n) e = t
 
     next : Tracks (offerOf d s .docket) (tookNext took s)
     unfolding offerOf
-    next = rw answer-same (next-by (plainAnswer took s) refl)
+    next = rw (← answer-same) (next-by (answerOf d s) refl)
 
 -- every list of offers
 answer-of : (d : DocketTerms) (s : List ℕ) (a : Outcome Reply) → offerBy d s a .answer ≡ a

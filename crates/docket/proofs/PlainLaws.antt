@@ -101,13 +101,11 @@ module _ (took : List (List ℕ)) (x : Standing) (is : x ≡ plainState took) wh
     (λ h. is ∙ rw (ne-eqb (length took) 0 (λ n. omega (arith, h .0)), h .1)),
   )
 
-  two-agreed : 2 ≤ length took → lastTwoAgree took ≡ true → x ≡ standing false (passed (lastOf took)) true (eqb (length took) mostTaken)
-  unfolding plainState
-  two-agreed h k = is ∙ rw (ne-eqb (length took) 0 (λ z. omega arith), le-leb 2 (length took) h, k)
-
   confirmed-then : x ≢ consistent → 2 ≤ length took → lastTwoAgree took ≡ true → x ≡ confirmed
+  unfolding plainState
   confirmed-then n h k =
-      let e = two-agreed h k in
+      let e : x ≡ standing false (passed (lastOf took)) true (eqb (length took) mostTaken) =
+      is ∙ rw (ne-eqb (length took) 0 (λ z. omega arith), le-leb 2 (length took) h, k) in
       e ∙ pick-confirmed (passed (lastOf took)) (eqb (length took) mostTaken) (λ y. n (e ∙ y))
 
   pub confirmed-when : (x ≡ confirmed) ↔ ((x ≢ consistent) × (2 ≤ length took) × (lastTwoAgree took ≡ true))
@@ -117,13 +115,11 @@ module _ (took : List (List ℕ)) (x : Standing) (is : x ≡ plainState took) wh
     (λ h. confirmed-then (h .0) (h .1) (h .2)),
   )
 
-  third-taken : length took ≡ mostTaken → x ≡ standing false (passed (lastOf took)) twoAgree true
-  unfolding plainState
-  third-taken h = is ∙ rw (ne-eqb (length took) 0 (λ z. omega arith), eq-eqb (length took) mostTaken h)
-
   unsettled-then : x ≢ consistent → x ≢ confirmed → length took ≡ mostTaken → x ≡ unsettled
+  unfolding plainState
   unsettled-then n m h =
-      let e = third-taken h in
+      let e : x ≡ standing false (passed (lastOf took)) twoAgree true =
+      is ∙ rw (ne-eqb (length took) 0 (λ z. omega arith), eq-eqb (length took) mostTaken h) in
       e ∙ pick-unsettled (passed (lastOf took)) twoAgree (λ y. n (e ∙ y)) (λ y. m (e ∙ y))
 
   pub unsettled-when : (x ≡ unsettled) ↔ ((x ≢ consistent) × (x ≢ confirmed) × (length took ≡ mostTaken))

@@ -1,40 +1,33 @@
-// Refusals 11 and 12 (document 01, 'Refusals that come from the state'): whether a docket admits a record that its own
-// tests accept.
+// Refusals 11 and 12 (document 01, 'Refusals that come from the state'): what a docket answers to a record that its own tests
+// accept. The tests are cheap and change nothing, so they are joined by `&` and `|`, which leave one way through.
+use crate::Answer;
 use crate::Docket;
 use crate::MOST;
 use crate::State;
 use judge::Agreement;
 use refusal::Refusal;
 ghost use mathlib.Core.Path.{_≡_};
-ghost use Rattle.docket.specs.Terms.{standingOf, docketOf, isOpen};
-ghost use Rattle.docket.specs.Admissions.{admissionOutcome, oneSampleOf, repeatOf, admissionOf};
+ghost use Rattle.judge.specs.Record.{isGiven};
+ghost use Rattle.judge.specs.Agreement.{agreementOutcome};
+ghost use Rattle.docket.specs.Terms.{standingOf, isOpen, docketOf, answerOutcome};
+ghost use Rattle.docket.specs.Admissions.{admissionOf};
 
-// As what a docket admits a record: its first, a repeat that agrees with the one before or differs from it; or why not.
-pub enum Admission {
-    First,
-    Agrees,
-    Differs,
-    Refused(Refusal),
-}
-
-pub fn admit(docket: Docket, words: &[u32]) -> Admission
-    ensures { λ r. ⌜ admissionOutcome r ≡ admissionOf (docketOf docket) (now (words .entry)) ⌝ }
+// The agreement is that of the record with the one held. It tells whether the one held is a record at all: no offers
+// produce a docket that holds another.
+pub fn answer(docket: Docket, words: &[u32], agreement: Agreement) -> Answer
+    ensures { λ r. ⌜ answerOutcome r ≡ admissionOf (docketOf docket) (now (words .entry)) (agreementOutcome agreement) ⌝ }
 {
-    let state = docket.state;
-    if !is_open(state) {
-        return Admission::Refused(Refusal::DocketClosed);
+    let empty = docket.count == 0;
+    if !(is_open(docket.state) & (docket.count < MOST) & (empty | is_told(agreement))) {
+        return Answer::Refused(Refusal::DocketClosed);
     }
-    if docket.count >= MOST {
-        return Admission::Refused(Refusal::DocketClosed);
+    if !(empty | judge::same_sample(&docket.held, words)) {
+        return Answer::Refused(Refusal::OtherSample);
     }
-    if docket.count == 0 {
-        return Admission::First;
-    }
-    let held = docket.held;
-    admit_repeat(&held, words)
+    Answer::Taken
 }
 
-fn is_open(state: State) -> bool
+pub fn is_open(state: State) -> bool
     ensures { λ r. ⌜ r ≡ isOpen (standingOf state) ⌝ }
 {
     match state {
@@ -45,22 +38,12 @@ fn is_open(state: State) -> bool
     }
 }
 
-// The record held is tested by the comparison: no offers produce a docket that holds a refused one.
-fn admit_repeat(held: &[u32], words: &[u32]) -> Admission
-    ensures { λ r. ⌜ admissionOutcome r ≡ repeatOf (now (held .entry)) (now (words .entry)) ⌝ }
+fn is_told(agreement: Agreement) -> bool
+    ensures { λ r. ⌜ r ≡ isGiven (agreementOutcome agreement) ⌝ }
 {
-    match judge::agree(held, words) {
-        Agreement::Agree => of_one_sample(held, words, Admission::Agrees),
-        Agreement::Differ => of_one_sample(held, words, Admission::Differs),
-        Agreement::Refused(_) => Admission::Refused(Refusal::DocketClosed),
+    match agreement {
+        Agreement::Agree => true,
+        Agreement::Differ => true,
+        Agreement::Refused(_) => false,
     }
-}
-
-fn of_one_sample(held: &[u32], words: &[u32], admission: Admission) -> Admission
-    ensures { λ r. ⌜ admissionOutcome r ≡ oneSampleOf (now (held .entry)) (now (words .entry)) (admissionOutcome admission) ⌝ }
-{
-    if !judge::same_sample(held, words) {
-        return Admission::Refused(Refusal::OtherSample);
-    }
-    admission
 }

@@ -62,8 +62,15 @@ pub fn fresh() -> Docket
 pub fn offer(docket: Docket, words: &[u32]) -> Offered
     ensures { λ r. ⌜ offeredOf r ≡ offerOf (docketOf docket) (now (words .entry)) ⌝ }
 {
-    match judge::judge(words) {
-        Judgement::Judged(verdicts) => offering::offer_judged(docket, words, verdicts),
+    let state = docket.state;
+    if !admission::is_open(state) {
+        return offering::offer_closed(docket, words);
+    }
+    let repeat = judge::judge_repeat(&docket.held, words);
+    let agreement = repeat.agreement;
+    let judgement = repeat.judgement;
+    match judgement {
+        Judgement::Judged(verdicts) => offering::offer_judged(docket, words, verdicts, agreement),
         Judgement::Refused(why) => Offered {
             docket: docket,
             answer: Answer::Refused(why),
@@ -79,11 +86,8 @@ pub fn follow(docket: Docket, words: &[u32]) -> Docket
     let mut followed = docket;
     let mut at: usize = 0;
     while at < words.len() {
-        let end = cutting::end_of(at, words.len());
-        let offered = offer(followed, &words[at..end]);
-        let next = offered.docket;
-        followed = next;
-        at = end;
+        followed = cutting::offer_at(followed, words, at);
+        at += judge::WORDS;
     }
     followed
 }

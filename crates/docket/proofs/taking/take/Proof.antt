@@ -20,4 +20,10 @@ returns c = simp (c .before .before .all-passed .ensures, c .before .state-after
 
 pub take-spec : {M : Type 1} → statement M
 take-spec =
-    tie.close (tie.spec add-count all-passed-requires state-after-requires copied-requires returns)
+    tie.close
+    (tie.spec
+    add-count
+    all-passed-requires
+    state-after-requires
+    copied-requires
+    returns)
