@@ -2,3 +2,4 @@
 mod CallLaws
 mod WordLaws
 mod OfferLaws
+mod ReadLaws

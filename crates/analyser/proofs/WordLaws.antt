@@ -1,29 +1,55 @@
--- The words of a docket: how they are put together, and that they are read back as that docket.
-use mathlib.Core.Path.{_≡_, refl}
-use mathlib.Core.List.{List, _∷_, _++_, append-nil}
-use Prim.Native.Nat.{ℕ, _+_, _≤_}
+-- The words of a docket: how they are put into a slice, what they are read as, and that they are read back as that docket.
+use mathlib.Core.Path.{_≡_, refl, sym, _∙_}
+use mathlib.Core.List.{List, [], _∷_, _++_}
+use Prim.Native.Nat.{ℕ, zero, suc, _-_, _≤_, _<_}
 use native.Mathlib.Omega.{arith}
-use lib.Dec.{lit≤}
-use lib.ListN.{length, set, replicate, drop, length-append}
+use lib.ListN.{length, set, take, drop, replicate, length-append, length-take, length-drop}
 use lib.Seq.{take-at}
-use borrow.Author.Tests.{le-leb}
+use borrow.Author.Tests.{le-leb, ne-eqb}
+use Rattle.refusal.specs.declared.Refusal.the-variants as refusal
+use Rattle.refusal.specs.Numbers.{numberOf}
+use Rattle.refusal.specs.Outcome.Outcome.{given, refused}
+use Rattle.refusal.proofs.PlaceLaws.{placed-whole}
 use Rattle.judge.specs.Record.{recordWords}
-use Rattle.refusal.specs.Outcome.Outcome.{given}
 use Rattle.docket.specs.Terms.{Standing, DocketTerms}
 use Rattle.docket.specs.Terms.Standing.{«open», consistent, confirmed, unsettled}
+use Rattle.words.specs.Room.{placedWithin}
+use Rattle.words.proofs.Laws.{placed-all}
 use Rattle.analyser.specs.DocketWords.{standingNumber, docketWords, docketLength, standingFrom, standingIn, docketFrom}
-use Rattle.refusal.specs.Lent.{placed}
+use Rattle.analyser.specs.Steps.{standingRead}
 
--- an array of zeros, with its first two words stored
-abbrev begun : ℕ → ℕ → List ℕ
-begun state count = set (set (replicate docketLength 0) 0 state) 1 count
+-- the state and the count stored in the first words, and the record placed behind them
+pub put-together : (d : DocketTerms) (lent : List ℕ) → length (d .held) ≡ recordWords → docketLength ≤ length lent → {state : ℕ} → state ≡ standingNumber (d .state)
+    → placedWithin (set (set lent 0 state) 1 (d .count)) 2 (d .held) ≡ docketWords d ++ drop (length (docketWords d)) lent
+put-together d [] whole room e = absurd (omega arith)
+put-together d (x ∷ []) whole room e = absurd (omega arith)
+put-together d (x ∷ y ∷ lent) whole room {state} e = placed-all (state ∷ d .count ∷ lent) 2 (d .held) (omega arith) ∙ rw (e, whole)
 
-module _ (state count : ℕ) (held : List ℕ) (whole : length held ≡ recordWords) where
-  pub room-for : 2 + length held ≤ length (begun state count)
-  room-for = rw whole (lit≤ tt)
+-- the record is the part that is copied
+pub record-copied : (lent : List ℕ) → docketLength ≤ length lent → {held : List ℕ} → held ≡ placedWithin (replicate recordWords 0) 0 (take (docketLength - 2) (drop 2 lent))
+    → held ≡ take recordWords (drop 2 lent)
+record-copied lent long {held} e =
+    let held₀ : List ℕ = take recordWords (drop 2 lent) in
+    let whole : length held₀ ≡ recordWords = omega (arith, length-take recordWords (drop 2 lent), length-drop 2 lent) in
+    e ∙ placed-all (replicate recordWords 0) 0 held₀ (omega arith) ∙ placed-whole (replicate recordWords 0) held₀ (sym whole)
 
-  pub put-together : placed (begun state count) 2 held ≡ state ∷ count ∷ held
-  put-together = rw whole (append-nil (state ∷ count ∷ held))
+-- a number up to 3 is a state's
+pub a-state : (n : ℕ) → n ≤ 3 → standingFrom n ≡ given (standingRead n)
+unfolding standingFrom standingRead
+a-state zero h = refl
+a-state (suc zero) h = refl
+a-state (suc (suc zero)) h = refl
+a-state (suc (suc (suc zero))) h = refl
+a-state (suc (suc (suc (suc n)))) h = absurd (omega arith)
+
+-- any other is none's, and is read as a closed one
+pub no-state : (n : ℕ) → 3 < n → (standingFrom n ≡ refused (numberOf refusal.DocketClosed)) × (standingRead n ≡ unsettled)
+unfolding standingFrom standingRead
+no-state n h =
+    let not0 = ne-eqb n 0 (λ e. omega arith) in
+    let not1 = ne-eqb n 1 (λ e. omega arith) in
+    let not2 = ne-eqb n 2 (λ e. omega arith) in
+    (simp (not0, not1, not2, ne-eqb n 3 (λ e. omega arith)), simp (not0, not1, not2))
 
 -- the way back
 standing-back : (s : Standing) → standingFrom (standingNumber s) ≡ given s

@@ -1,29 +1,21 @@
--- What the steps of these calls answer or leave. Only the contracts of private functions cite this file.
+-- What the steps of these calls read and answer. Only the contracts of private functions cite this file.
+use mathlib.Core.Bool.{cond}
 use mathlib.Core.List.{List}
 use Prim.Native.Nat.{ℕ}
-use Rattle.refusal.specs.Outcome.{Outcome}
-use Rattle.refusal.specs.Outcome.Outcome.{given, refused}
+use lib.Dec.{eqb}
+use Rattle.refusal.specs.declared.Refusal.the-variants as refusal
 use Rattle.refusal.specs.Numbers.{numberOf}
+use Rattle.refusal.specs.Outcome.{Outcome}
+use Rattle.refusal.specs.Outcome.Outcome.{refused}
 use Rattle.judge.specs.Judgements.{Four, judgementOf}
-use Rattle.docket.specs.Terms.{Standing, standingOf}
-use Rattle.docket.specs.Offers.{offerOf}
-use Rattle.analyser.specs.declared.docket_words.LentState.{LentState}
-use Rattle.analyser.specs.declared.docket_words.LentState.the-variants as lentState
+use Rattle.docket.specs.Terms.{Standing}
+use Rattle.docket.specs.Terms.Standing.{«open», consistent, confirmed, unsettled}
 use Rattle.analyser.specs.Codes.{andThen}
-use Rattle.analyser.specs.DocketWords.{docketAt}
-use Rattle.analyser.specs.LentDockets.{wordsAfter}
 
-abbrev pub stateOutcome : LentState → Outcome Standing
-stateOutcome (lentState.Given s) = given (standingOf s)
-stateOutcome (lentState.Refused why) = refused (numberOf why)
+-- the state that a number is read as: one that is no state's as a closed one
+unfoldable pub standingRead : ℕ → Standing
+standingRead n = cond (eqb n 0) «open» (cond (eqb n 1) consistent (cond (eqb n 2) confirmed unsettled))
 
--- to a lent docket that stands there
-abbrev pub offeredAt : Standing → List ℕ → List ℕ → Outcome (List ℕ)
-offeredAt state lent s = wordsAfter (offerOf (docketAt state lent) s)
-
--- to words that hold no docket for that reason
-abbrev pub withoutDocket : ℕ → Four → Outcome (List ℕ)
-withoutDocket n v = refused n
-
-abbrev pub offeredToNone : ℕ → List ℕ → Outcome (List ℕ)
-offeredToNone n s = andThen (judgementOf s) (withoutDocket n)
+-- an offer to words that are too few for a docket
+abbrev pub offeredToNone : List ℕ → Outcome (List ℕ)
+offeredToNone s = andThen (judgementOf s) (λ (v : Four). refused (numberOf refusal.OutputLength))

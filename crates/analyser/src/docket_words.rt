@@ -1,16 +1,18 @@
 // The words of a docket: where it stands, its count, and the words of its last record.
-use crate::lending;
 use docket::Docket;
 use docket::State;
 use judge::WORDS;
 use refusal::Refusal;
 ghost use mathlib.Core.Path.{_≡_};
 ghost use Prim.Native.Nat.{_≤_};
-ghost use lib.ListN.{length};
+ghost use lib.ListN.{length, getD};
+ghost use Rattle.refusal.specs.Outcome.Outcome.{given};
+ghost use Rattle.refusal.specs.Lent.{fitting, lentAfter};
 ghost use Rattle.judge.specs.Record.{recordWords};
 ghost use Rattle.docket.specs.Terms.{standingOf, docketOf};
-ghost use Rattle.analyser.specs.DocketWords.{standingNumber, docketWords, docketLength, standingFrom, standingIn, docketAt};
-ghost use Rattle.analyser.specs.Steps.{stateOutcome};
+ghost use Rattle.analyser.specs.Codes.{codeOf};
+ghost use Rattle.analyser.specs.DocketWords.{standingNumber, docketWords, docketLength, docketAt};
+ghost use Rattle.analyser.specs.Steps.{standingRead};
 
 // Where they stand in the words, and how many there are.
 const STATE: usize = 0;
@@ -19,45 +21,35 @@ const COUNT: usize = 1;
 
 const RECORD: usize = 2;
 
-const LENGTH: usize = RECORD + WORDS;
+pub const LENGTH: usize = RECORD + WORDS;
 
-// Where the docket of lent words stands, or why they hold none.
-pub enum LentState {
-    Given(State),
-    Refused(Refusal),
-}
-
-// All of them.
-pub fn words_of(docket: Docket) -> [u32; LENGTH]
-    ensures { λ r. ⌜ r ≡ docketWords (docketOf docket) ⌝ }
-{
-    let state = docket.state;
-    let held = docket.held;
-    let mut words = [0u32; LENGTH];
-    words[STATE] = number(state);
-    words[COUNT] = docket.count;
-    lending::place(&held, &mut words, RECORD);
-    words
-}
-
-// Where the docket of a lent slice stands. A slice that is shorter than a docket holds none.
-pub fn state_in(lent: &[u32]) -> LentState
-    ensures { λ r. ⌜ stateOutcome r ≡ standingIn (now (lent .entry)) ⌝ }
+// A docket into the first words of a lent slice. How long its record is, is said for the callers: where the docket is an
+// answer, they do not know it.
+pub fn lend(docket: Docket, lent: &mut [u32]) -> u32
+    ensures code { λ r. ⌜ r ≡ codeOf (fitting (length (now (lent .entry))) (given (docketWords (docketOf docket)))) ⌝ }
+    ensures after { λ _. ⌜ now (lent .exit) ≡ lentAfter (fitting (length (now (lent .entry))) (given (docketWords (docketOf docket)))) (now (lent .entry)) ⌝ }
+    ensures whole { λ _. ⌜ length (docketOf docket .held) ≡ recordWords ⌝ }
 {
     if lent.len() < LENGTH {
-        return LentState::Refused(Refusal::OutputLength);
+        return Refusal::OutputLength.number();
     }
-    state_of(lent[STATE])
+    let state = docket.state;
+    let held = docket.held;
+    lent[STATE] = number(state);
+    lent[COUNT] = docket.count;
+    words::place(&held, lent, RECORD);
+    0
 }
 
-// The docket of a lent slice, which stands there. An enum can't hold a docket's array, so the state is answered apart.
-pub fn docket_at(state: State, lent: &[u32]) -> Docket
+// The docket of a lent slice.
+pub fn docket_at(lent: &[u32]) -> Docket
     requires { ⌜ docketLength ≤ length (now lent) ⌝ }
-    ensures { λ r. ⌜ docketOf r ≡ docketAt (standingOf state) (now (lent .entry)) ⌝ }
+    ensures { λ r. ⌜ docketOf r ≡ docketAt (standingRead (getD (now (lent .entry)) 0 0)) (now (lent .entry)) ⌝ }
 {
-    let held = copied(&lent[RECORD..LENGTH]);
+    let mut held = [0u32; WORDS];
+    words::place(&lent[RECORD..LENGTH], &mut held, 0);
     Docket {
-        state: state,
+        state: state(lent[STATE]),
         count: lent[COUNT],
         held: held,
     }
@@ -75,25 +67,14 @@ fn number(state: State) -> u32
     }
 }
 
-// The state of a number. No offers produce a docket of any other.
-fn state_of(number: u32) -> LentState
-    ensures { λ r. ⌜ stateOutcome r ≡ standingFrom number ⌝ }
+// The state of a number. Any above 3 is none, and is read as a closed one: an offer to either is refused alike.
+fn state(number: u32) -> State
+    ensures { λ r. ⌜ standingOf r ≡ standingRead number ⌝ }
 {
     match number {
-        0 => LentState::Given(State::Open),
-        1 => LentState::Given(State::Consistent),
-        2 => LentState::Given(State::Confirmed),
-        3 => LentState::Given(State::Unsettled),
-        _ => LentState::Refused(Refusal::DocketClosed),
+        0 => State::Open,
+        1 => State::Consistent,
+        2 => State::Confirmed,
+        _ => State::Unsettled,
     }
-}
-
-// The words of a record, by value.
-fn copied(words: &[u32]) -> [u32; WORDS]
-    requires { ⌜ length (now words) ≡ recordWords ⌝ }
-    ensures { λ r. ⌜ r ≡ now (words .entry) ⌝ }
-{
-    let mut held = [0u32; WORDS];
-    lending::place(words, &mut held, 0);
-    held
 }

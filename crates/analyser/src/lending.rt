@@ -1,10 +1,9 @@
-// Answers and other words into slices.
+// Answers into lent slices.
 use refusal::Refusal;
 ghost use mathlib.Core.Path.{_≡_};
-ghost use Prim.Native.Nat.{_+_, _≤_};
 ghost use lib.ListN.{length};
 ghost use Rattle.refusal.specs.Outcome.Outcome.{given};
-ghost use Rattle.refusal.specs.Lent.{fitting, lentAfter, placed};
+ghost use Rattle.refusal.specs.Lent.{fitting, lentAfter};
 ghost use Rattle.analyser.specs.Codes.{codeOf};
 
 // An answer into the first words of a lent slice: the test for room is the last that a call makes.
@@ -15,18 +14,6 @@ pub fn lend(answer: &[u32], lent: &mut [u32]) -> u32
     if lent.len() < answer.len() {
         return Refusal::OutputLength.number();
     }
-    place(answer, lent, 0);
+    words::place(answer, lent, 0);
     0
-}
-
-// Words into a slice, from a place on.
-pub fn place(words: &[u32], into: &mut [u32], at: usize)
-    requires { ⌜ at + length (now words) ≤ length (now into) ⌝ }
-    ensures { λ _. ⌜ now (into .exit) ≡ placed (now (into .entry)) at (now (words .entry)) ⌝ }
-{
-    let mut i: usize = 0;
-    while i < words.len() {
-        into[at + i] = words[i];
-        i += 1;
-    }
 }

@@ -8,7 +8,7 @@ mod offering;
 mod reading_words;
 mod verdict_words;
 
-use docket_words::LentState;
+use docket::Answer;
 use judge::Judgement;
 use reading::Analysed;
 use reading::ReadingResult;
@@ -61,8 +61,7 @@ pub extern "C" fn peltquarry_fresh(docket: &mut [u32]) -> u32
     ensures fresh { λ r. ⌜ FreshLent r (now (docket .entry)) (now (docket .exit)) ⌝ }
     ensures laws { λ r. ⌜ LentLaws ⌝ }
 {
-    let answer = docket_words::words_of(docket::fresh());
-    lending::lend(&answer, docket)
+    docket_words::lend(docket::fresh(), docket)
 }
 
 // Offers a record to a docket lent as words. Where it is taken, they become those of the docket after it.
@@ -72,9 +71,15 @@ pub extern "C" fn peltquarry_offer(docket: &mut [u32], words: &[u32]) -> u32
     ensures lent { λ _. ⌜ now (docket .exit) ≡ lentAfter (offeredWords (now (docket .entry)) (now (words .entry))) (now (docket .entry)) ⌝ }
     ensures laws { λ r. ⌜ LentLaws ⌝ }
 {
-    match docket_words::state_in(docket) {
-        LentState::Given(state) => offering::offer_to(state, docket, words),
-        LentState::Refused(why) => offering::refuse(words, why),
+    if docket.len() < docket_words::LENGTH {
+        return offering::to_none(words);
+    }
+    let before = docket_words::docket_at(docket);
+    let offered = docket::offer(before, words);
+    let answer = offered.answer;
+    match answer {
+        Answer::Taken => docket_words::lend(offered.docket, docket),
+        Answer::Refused(why) => why.number(),
     }
 }
 

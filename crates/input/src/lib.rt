@@ -1,12 +1,11 @@
 // Words from standard input: four bytes each, least byte first.
 use libc::STDIN_FILENO;
-ghost use Prim.Native.Nat.{_+_, _*_, _≤_, _<_};
+use words::WORD_BYTES;
+ghost use Prim.Native.Nat.{_≤_};
 ghost use lib.ListN.{length};
 
 // The most words that one call reads.
 pub const MOST_WORDS: usize = 1024;
-
-const WORD_BYTES: usize = 4;
 
 const MOST_BYTES: usize = MOST_WORDS * WORD_BYTES;
 
@@ -23,11 +22,15 @@ pub fn read(words: &mut [u32]) -> Got
 {
     let wanted = lesser(words.len(), MOST_WORDS) * WORD_BYTES;
     let mut bytes = [0u8; MOST_BYTES];
-    // Its start is written out, since the check then knows its length.
-    let part = &mut bytes[0..wanted];
-    let got = io::read_full(STDIN_FILENO, part);
-    let whole = got / WORD_BYTES;
-    unpack(part, &mut words[0..whole]);
+    fill(words, &mut bytes[0..wanted])
+}
+
+// The same through a buffer of as many bytes as are wanted.
+fn fill(words: &mut [u32], buffer: &mut [u8]) -> Got
+    ensures { λ r. ⌜ r .words ≤ length (now (words .exit)) ⌝ }
+{
+    let got = io::read_full(STDIN_FILENO, buffer);
+    let whole = words::unpack(&buffer[0..got], words);
     Got {
         bytes: got,
         words: whole,
@@ -38,30 +41,4 @@ fn lesser(a: usize, b: usize) -> usize
     ensures { λ r. ⌜ (r ≤ a) × (r ≤ b) ⌝ }
 {
     if a < b { a } else { b }
-}
-
-fn unpack(bytes: &[u8], words: &mut [u32])
-    requires { ⌜ length (now words) * 4 ≤ length (now bytes) ⌝ }
-{
-    let mut i = 0;
-    while i < words.len() {
-        words[i] = word(bytes, i * WORD_BYTES);
-        i += 1;
-    }
-}
-
-// The word that begins at a byte.
-fn word(bytes: &[u8], at: usize) -> u32
-    requires { ⌜ at + 4 ≤ length (now bytes) ⌝ }
-{
-    wide(bytes[at])
-        + wide(bytes[at + 1]) * 256
-        + wide(bytes[at + 2]) * 65536
-        + wide(bytes[at + 3]) * 16777216
-}
-
-fn wide(x: u8) -> u32
-    ensures { λ r. ⌜ r < 256 ⌝ }
-{
-    x as u32
 }

@@ -1,66 +1,79 @@
 -- What a batch's answer leaves in a slice that has room for every answer: no answer is refused for want of room.
 use mathlib.Core.Path.{_≡_, refl, sym, ap, _∙_}
-use mathlib.Core.List.{List}
-use Prim.Native.Nat.{ℕ, _+_, _-_, _*_, _≤_}
+use mathlib.Core.List.{List, _++_}
+use Prim.Native.Nat.{ℕ, _+_, _*_, _≤_, _<_}
 use native.Mathlib.Omega.{arith}
 use borrow.Author.Tests.{le-leb}
-use lib.ListN.{length, take, drop}
-use lib.Seq.{take-at}
+use lib.ListN.{length, getD, take, drop, take-append-drop, length-take}
+use lib.Seq.{take-at, getD-take}
+use Rattle.refusal.specs.declared.Written.{Written}
+use Rattle.refusal.specs.declared.Written.the-variants as written
+use Rattle.refusal.specs.declared.Refusal.{Refusal}
+use Rattle.refusal.specs.Numbers.{numberOf}
 use Rattle.refusal.specs.Outcome.{Outcome}
 use Rattle.refusal.specs.Outcome.Outcome.{given, refused}
-use Rattle.refusal.specs.Lent.{fitting, lengthOf, lentAfter}
+use Rattle.refusal.specs.Lent.{fitting, lengthOf, lentAfter, writtenOutcome}
 use Rattle.refusal.proofs.Outcomes.{never}
 use Rattle.batch.specs.Batches.{mostSamples}
 use Rattle.batch.specs.Rows.{rowWords, batchAnswer, Listed}
 use Rattle.batch.proofs.Laws.{answer-listed}
-use Rattle.listing.specs.Listing.{listingText, refusedText, textOf}
+use Rattle.listing.specs.Listing.{listingText, refusedText, textOf, mostText}
+use Rattle.listing.specs.Steps.{answerIn, Answered}
+use Rattle.listing.proofs.LineLaws.{listing-front}
+use Rattle.listing.proofs.RoomLaws.{listed-fits}
 
 -- the words of the longest answer
 abbrev pub mostAnswer : ℕ
 mostAnswer = 1 + mostSamples * rowWords
 
+-- every answer fits
 roomy : (answer : Outcome (List ℕ)) → ((w : List ℕ) → answer ≡ given w → Listed w) → fitting mostAnswer answer ≡ answer
 roomy (given w) listed = let l = listed w refl in simp (le-leb (length w) mostAnswer (omega (arith, l .size, l .count)))
 roomy (refused n) listed = refl
 
-within : (answer : Outcome (List ℕ)) → ((w : List ℕ) → answer ≡ given w → Listed w) → (k : ℕ) → given k ≡ lengthOf answer → k ≤ mostAnswer
-within (given w) listed k e =
-    let l = listed w refl in
-    let same : k ≡ length w = cc in
-    omega (arith, l .size, l .count)
-within (refused n) listed k e = never (sym e)
+settled : (answer : Outcome (List ℕ)) → ((w : List ℕ) → answer ≡ given w → Listed w) → (r : Written) (out old : List ℕ)
+    → writtenOutcome r ≡ lengthOf answer → out ≡ lentAfter answer old → Answered r out × (answerIn r out ≡ answer)
+settled (given w) listed (written.Length n) out old e o =
+    let same : length w ≡ n = cc in
+    let first : take n out ≡ w = ap (λ (l : List ℕ). take n l) o ∙ take-at w (drop (length w) old) n same in
+    (rw first (listed w refl), ap given first)
+settled (given w) listed (written.Refused why) out old e o = never e
+settled (refused m) listed (written.Length n) out old e o = never (sym e)
+settled (refused m) listed (written.Refused why) out old e o = (tt, cc)
 
--- so many words were given: they are the first of the slice, lent as a part of it
-given-words : (answer : Outcome (List ℕ)) (k : ℕ) (out old : List ℕ) → given k ≡ lengthOf answer → out ≡ lentAfter answer old → answer ≡ given (take (k - 0) out)
-given-words (given w) k out old e o =
-    let same : k ≡ length w = cc in
-    let all : length w ≡ k - 0 = omega arith in
-    ap given (sym (ap (λ (l : List ℕ). take (k - 0) l) o ∙ take-at w (drop (length w) old) (k - 0) all))
-given-words (refused n) k out old e o = never (sym e)
+-- what the call returned and left is the answer to the batch
+pub answered : (s : List ℕ) (r : Written) (out old : List ℕ) → writtenOutcome r ≡ lengthOf (fitting mostAnswer (batchAnswer s))
+    → out ≡ lentAfter (fitting mostAnswer (batchAnswer s)) old → Answered r out × (answerIn r out ≡ batchAnswer s)
+answered s r out old e o =
+    let room : fitting mostAnswer (batchAnswer s) ≡ batchAnswer s = roomy (batchAnswer s) (answer-listed s) in
+    settled (batchAnswer s) (answer-listed s) r out old (rw room at e) (rw room at o)
 
-refused-words : (answer : Outcome (List ℕ)) (m : ℕ) → refused m ≡ lengthOf answer → answer ≡ refused m
-refused-words (given w) m e = never e
-refused-words (refused n) m e = let same : m ≡ n = cc in ap refused (sym same)
+-- an answer at the start of a slice
+module _ (words : List ℕ) {r : Written} where
+  module _ {n : ℕ} (e : r ≡ written.Length n) (a : Answered r words) where
+    listed : Listed (take n words)
+    listed = rw e at a
 
-module _ (s : List ℕ) where
-  room : fitting mostAnswer (batchAnswer s) ≡ batchAnswer s
-  room = roomy (batchAnswer s) (answer-listed s)
+    parts : take n words ++ drop n words ≡ words
+    parts = take-append-drop n words
 
-  module _ {k : ℕ} (e : given k ≡ lengthOf (fitting mostAnswer (batchAnswer s))) where
-    pub given-within : k ≤ mostAnswer
-    given-within = within (batchAnswer s) (answer-listed s) k (rw room at e)
+    same-text : listingText words ≡ listingText (take n words)
+    same-text = rw parts at (listing-front (take n words) (drop n words) (listed .size))
 
-    pub answer-given : (out old : List ℕ) → out ≡ lentAfter (fitting mostAnswer (batchAnswer s)) old → batchAnswer s ≡ given (take (k - 0) out)
-    answer-given out old o = given-words (batchAnswer s) k out old (rw room at e) (rw room at o)
+    -- all its rows are in the slice, and their text fits
+    pub rows-inside : 1 + rowWords * getD words 0 0 ≤ length words
+    rows-inside =
+        let many : 0 < n = omega (arith, listed .size, length-take n words) in
+        let count : getD (take n words) 0 0 ≡ getD words 0 0 = getD-take n words 0 0 many in
+        omega (arith, listed .size, length-take n words)
 
-  pub answer-refused : {m : ℕ} → refused m ≡ lengthOf (fitting mostAnswer (batchAnswer s)) → batchAnswer s ≡ refused m
-  answer-refused {m} e = refused-words (batchAnswer s) m (rw room at e)
+    pub text-inside : length (listingText words) ≤ mostText
+    text-inside = rw same-text (listed-fits (take n words) listed)
 
--- the text of each
-pub text-given : {answer : Outcome (List ℕ)} {w : List ℕ} → answer ≡ given w → textOf answer ≡ listingText w
-unfolding textOf
-text-given e = ap textOf e
+    pub text-listed : textOf (answerIn r words) ≡ listingText words
+    unfolding textOf
+    text-listed = rw e (sym same-text)
 
-pub text-refused : {answer : Outcome (List ℕ)} {m : ℕ} → answer ≡ refused m → textOf answer ≡ refusedText m
-unfolding textOf
-text-refused e = ap textOf e
+  pub text-refused : {why : Refusal} → r ≡ written.Refused why → textOf (answerIn r words) ≡ refusedText (numberOf why)
+  unfolding textOf
+  text-refused e = rw e

@@ -1,5 +1,4 @@
 -- The laws that the functions' proofs cite.
-mod WordLaws
 mod DecimalLaws
 mod PartLaws
 mod LineLaws

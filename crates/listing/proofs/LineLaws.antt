@@ -1,55 +1,62 @@
--- Lines from the front: the next field of a line, the next row of many.
-use mathlib.Core.Path.{_≡_, refl, sym, ap}
+-- Lines from the front: the next field of a row, the next row of many; and rows that other words stand behind.
+use mathlib.Core.Path.{_≡_, refl, sym, _∙_}
 use mathlib.Core.List.{List, [], _∷_, _++_}
 use Prim.Native.Nat.{ℕ, zero, suc, _+_, _-_, _*_, _≤_, _<_}
 use native.Mathlib.Numerals.{add-one}
 use native.Mathlib.Omega.{arith}
-use lib.ListN.{length, getD, take, drop, length-take, length-drop}
-use lib.Seq.{drop-cons, drop-drop, append-snoc, take-all}
+use lib.ListN.{length, getD, drop, length-take, length-drop, drop-of-length-le}
+use lib.Seq.{drop-cons, drop-drop, append-snoc, take-append-le, drop-append-le, getD-take, getD-drop}
 use Rattle.batch.specs.Rows.{rowWords}
 use Rattle.listing.specs.Decimal.{decimal}
-use Rattle.listing.specs.Listing.{ending, line, rowLine, rowLines}
+use Rattle.listing.specs.Listing.{ending, line, rowLine, rowLines, listingText}
+use Rattle.listing.specs.Steps.{rowAt}
 use Rattle.listing.proofs.PartLaws.{Begins}
 
--- a field with what ends it, and the rest of the line
-pub line-next : (s : List ℕ) (i end : ℕ) → i < length s → end ≡ ending (length s - i - 1)
-    → Begins (line (drop i s)) (decimal (getD s i 0) ++ (end ∷ [])) (line (drop (i + 1) s))
-unfolding line
-line-next s i end h e =
-    let after : length (drop (suc i) s) ≡ length s - i - 1 = omega (arith, length-drop (suc i) s) in
-    record {
-      with =
-          rw (add-one i, drop-cons s i 0 h, after, e)
-          (sym (append-snoc (decimal (getD s i 0)) (ending (length s - i - 1)) (line (drop (suc i) s))));
-    }
+-- the fields of a row
+module _ (words : List ℕ) (from : ℕ) (whole : from + rowWords ≤ length words) where
+  row-length : length (rowAt words from) ≡ rowWords
+  row-length = omega (arith, length-take rowWords (drop from words), length-drop from words)
 
-pub line-none : line [] ≡ []
-unfolding line
-line-none = refl
+  -- the next, with what ends it, and the rest of the line
+  pub row-next : (i : ℕ) → i < rowWords
+      → Begins (line (drop i (rowAt words from))) (decimal (getD words (from + i) 0) ++ (ending (rowWords - 1 - i) ∷ [])) (line (drop (i + 1) (rowAt words from)))
+  unfolding line
+  row-next i h =
+      let row : List ℕ = rowAt words from in
+      let after : length (drop (suc i) row) ≡ rowWords - 1 - i = omega (arith, row-length, length-drop (suc i) row) in
+      let field : getD row i 0 ≡ getD words (from + i) 0 = getD-take rowWords (drop from words) i 0 h ∙ getD-drop from words i 0 in
+      record {
+        with =
+            rw (add-one i, drop-cons row i 0 (omega (arith, row-length)), after, field)
+            (sym (append-snoc (decimal (getD words (from + i) 0)) (ending (rowWords - 1 - i)) (line (drop (suc i) row))));
+      }
 
--- a row, whose words the code lends as a part of all, and those after it
-pub rows-next : (s : List ℕ) (from left : ℕ) → 0 < left
-    → Begins (rowLines left (drop from s)) (rowLine (take (from + rowWords - from) (drop from s))) (rowLines (left - 1) (drop (from + rowWords) s))
+  pub row-ends : (i : ℕ) → rowWords ≤ i → line (drop i (rowAt words from)) ≡ []
+  unfolding line
+  row-ends i h = rw (drop-of-length-le (rowAt words from) {i = i} (omega (arith, row-length)))
+
+-- a row and those after it
+pub rows-next : (words : List ℕ) (from left : ℕ) → 0 < left
+    → Begins (rowLines left (drop from words)) (rowLine (rowAt words from)) (rowLines (left - 1) (drop (from + rowWords) words))
 unfolding rowLines
-rows-next s from zero h = absurd (omega arith)
-rows-next s from (suc left) h =
+rows-next words from zero h = absurd (omega arith)
+rows-next words from (suc left) h =
     let fewer : suc left - 1 ≡ left = omega arith in
-    let row : from + rowWords - from ≡ rowWords = omega arith in
-    record { with = rw (fewer, row, drop-drop rowWords from s) }
+    record { with = rw (fewer, drop-drop rowWords from words) }
 
 pub rows-none : (words : List ℕ) → rowLines 0 words ≡ []
 unfolding rowLines
 rows-none words = refl
 
--- the count and the rows, as the code lends them from an answer's words
-pub first-lent : (words : List ℕ) → 0 < length words → line (take 1 words) ≡ line (getD words 0 0 ∷ [])
-first-lent [] h = absurd (omega arith)
-first-lent (n ∷ words) h = refl
+-- what stands behind the rows changes nothing
+rows-front : (n : ℕ) (words more : List ℕ) → rowWords * n ≤ length words → rowLines n (words ++ more) ≡ rowLines n words
+unfolding rowLines
+rows-front zero words more h = refl
+rows-front (suc n) words more h =
+    let row : rowWords ≤ length words = omega arith in
+    rw (take-append-le rowWords words more row, drop-append-le rowWords words more row, rows-front n (drop rowWords words) more (omega (arith, length-drop rowWords words)))
 
-pub rows-lent : (n : ℕ) (words : List ℕ) → rowLines n (take (length words - 1) (drop 1 words)) ≡ rowLines n (drop 1 words)
-rows-lent n words =
-    ap (rowLines n) (take-all (length words - 1) (drop 1 words) (omega (arith, length-drop 1 words)))
-
-pub rows-whole : (words : List ℕ) → length words ≡ 1 + rowWords * getD words 0 0
-    → rowWords * getD words 0 0 ≤ length (take (length words - 1) (drop 1 words))
-rows-whole words e = omega (arith, length-take (length words - 1) (drop 1 words), length-drop 1 words)
+pub listing-front : (words more : List ℕ) → length words ≡ 1 + rowWords * getD words 0 0 → listingText (words ++ more) ≡ listingText words
+unfolding listingText
+listing-front [] more h = absurd (omega arith)
+listing-front (count ∷ rows) more h = rw (rows-front count rows more (omega arith))

@@ -27,9 +27,10 @@ module _
     second ∙ rw (first, place, same) (placed-then text 0 s t room ∙ rw (zero-add (length (s ++ t)))),
   )
 
--- A loop that writes part after part. What is left to write gives, over what is written, the whole.
+-- A loop that writes part after part. What is left to write has room, and gives, over what is written, the whole.
 pub record Left (before : List ℕ) (at : ℕ) (whole text : List ℕ) (next : ℕ) (rest : List ℕ) : Type 0 where
   pub long : length text ≡ length before
+  pub fits : next + length rest ≤ length text
   pub ends : next + length rest ≡ at + length whole
   pub gives : placed text next rest ≡ placed before at whole
 
@@ -37,26 +38,28 @@ pub record Left (before : List ℕ) (at : ℕ) (whole text : List ℕ) (next : �
 pub record Begins (rest part more : List ℕ) : Type 0 where
   pub with : rest ≡ part ++ more
 
-pub left-all : (before : List ℕ) (at : ℕ) (whole : List ℕ) → Left before at whole before at whole
-left-all before at whole = record { long = refl; ends = refl; gives = refl }
+pub left-all : (before : List ℕ) (at : ℕ) (whole : List ℕ) → at + length whole ≤ length before → Left before at whole before at whole
+left-all before at whole h = record { long = refl; fits = h; ends = refl; gives = refl }
 
 module _ {before : List ℕ} {at : ℕ} {whole text : List ℕ} {next : ℕ} where
   pub left-none : Left before at whole text next [] → (next ≡ at + length whole) × (text ≡ placed before at whole)
   left-none left = (omega (arith, left .ends), sym (placed-none text next) ∙ left .gives)
 
-  module _ {rest part more : List ℕ} (fits : at + length whole ≤ length before) (left : Left before at whole text next rest) (b : Begins rest part more) where
+  module _ {rest part more : List ℕ} (left : Left before at whole text next rest) (b : Begins rest part more) where
     lengths : length rest ≡ length part + length more
     lengths = ap length (b .with) ∙ length-append part more
 
     -- there is room for the part
     pub left-room : next + length part ≤ length text
-    left-room = omega (arith, left .ends, left .long, lengths)
+    left-room = omega (arith, left .fits, lengths)
 
     -- once it is written, the rest is left
     pub left-next : {text′ : List ℕ} {next′ : ℕ} → text′ ≡ placed text next part → next′ ≡ next + length part → Left before at whole text′ next′ more
-    left-next t n =
+    left-next {text′} t n =
+        let same : length text′ ≡ length text = ap length t ∙ length-placed text next part left-room in
         record {
-          long = ap length t ∙ length-placed text next part left-room ∙ left .long;
+          long = same ∙ left .long;
+          fits = omega (arith, left .fits, lengths);
           ends = omega (arith, left .ends, lengths);
           gives =
               rw (t, n) (placed-then text next part more left-room ∙ ap (λ (s : List ℕ). placed text next s) (sym (b .with)) ∙ left .gives);

@@ -11,9 +11,10 @@ use Rattle.refusal.specs.Numbers.{numberOf}
 use Rattle.refusal.specs.Outcome.{Outcome, demand}
 use Rattle.refusal.specs.Outcome.Outcome.{given, refused}
 use Rattle.refusal.proofs.Outcomes.{never}
+use Rattle.words.specs.Words.{wordsOf}
 use Rattle.batch.specs.Rows.{rowWords, batchAnswer, SmallRow, Listed}
 use Rattle.batch.proofs.Laws.{answer-listed}
-use Rattle.listing.specs.Words.{wordsOf, isInput}
+use Rattle.listing.specs.Input.{isInput}
 use Rattle.listing.specs.Decimal.{decimal}
 use Rattle.listing.specs.Listing.{ending, line, rowLine, rowLines, listingText, refusedWord, refusedText, textOf, listText, mostText, TextFits}
 use Rattle.listing.proofs.DecimalLaws.{decimal-within, decimal-most}

@@ -1,4 +1,4 @@
-pub mod Words
+pub mod Input
 pub mod Decimal
 pub mod Listing
 pub mod Steps

@@ -9,7 +9,8 @@ use Rattle.refusal.specs.Numbers.{numberOf}
 use Rattle.refusal.specs.Outcome.{Outcome, demand}
 use Rattle.refusal.specs.Outcome.Outcome.{given, refused}
 use Rattle.batch.specs.Rows.{rowWords, batchAnswer}
-use Rattle.listing.specs.Words.{wordsOf, isInput}
+use Rattle.words.specs.Words.{wordsOf}
+use Rattle.listing.specs.Input.{isInput}
 use Rattle.listing.specs.Decimal.{decimal}
 
 -- ASCII codes

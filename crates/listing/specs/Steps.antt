@@ -1,8 +1,24 @@
--- What the steps of the code are stated by: the word at a place of bytes.
+-- What the steps of the code are stated by. Only the contracts of private functions cite this file.
 use mathlib.Core.List.{List}
-use Prim.Native.Nat.{ℕ, _+_, _*_}
-use lib.ListN.{getD}
+use Prim.Native.Nat.{ℕ}
+use lib.ListN.{take, drop}
+use Rattle.refusal.specs.declared.Written.{Written}
+use Rattle.refusal.specs.declared.Written.the-variants as written
+use Rattle.refusal.specs.Numbers.{numberOf}
+use Rattle.refusal.specs.Outcome.{Outcome}
+use Rattle.refusal.specs.Outcome.Outcome.{given, refused}
+use Rattle.batch.specs.Rows.{rowWords, Listed}
 
--- the word that begins at a byte
-abbrev pub wordAt : List ℕ → ℕ → ℕ
-wordAt b at = getD b at 0 + 256 * getD b (at + 1) 0 + 65_536 * getD b (at + 2) 0 + 16_777_216 * getD b (at + 3) 0
+-- what was answered to a batch, by what the call returned and the slice that it wrote to
+abbrev pub answerIn : Written → List ℕ → Outcome (List ℕ)
+answerIn (written.Length n) words = given (take n words)
+answerIn (written.Refused why) words = refused (numberOf why)
+
+-- the first words of the slice, where the call says how many, are a batch's answer
+abbrev pub Answered : Written → List ℕ → Type 0
+Answered (written.Length n) words = Listed (take n words)
+Answered (written.Refused why) words = Unit {0}
+
+-- the words of the row that begins at a word
+abbrev pub rowAt : List ℕ → ℕ → List ℕ
+rowAt words from = take rowWords (drop from words)

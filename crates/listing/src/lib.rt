@@ -2,8 +2,8 @@
 // judged, and its answer becomes lines.
 mod decimal;
 mod judging;
+mod lending;
 mod lines;
-mod words;
 
 use refusal::Refusal;
 use refusal::Written;
@@ -29,12 +29,10 @@ pub fn text_of(bytes: &[u8], text: &mut [u8; MOST_TEXT]) -> usize
     ensures within { λ r. ⌜ r ≤ length (now (text .exit)) ⌝ }
     ensures fits { λ _. ⌜ TextFits ⌝ }
 {
-    if !words::is_input(bytes) {
+    if !judging::is_input(bytes) {
         return lines::put_refusal(text, Refusal::BatchLength);
     }
-    let mut words = [0u32; words::MOST_WORDS];
-    let count = words::unpack(bytes, &mut words);
-    judging::put_answer(text, &words[0..count])
+    judging::put_text(text, bytes)
 }
 
 // Writes the text of a batch, lent as bytes, to the start of any lent text. Where that is shorter, it is refused and left as
@@ -47,9 +45,5 @@ pub fn list(bytes: &[u8], text: &mut [u8]) -> Written
 {
     let mut made = [0u8; MOST_TEXT];
     let length = text_of(bytes, &mut made);
-    if text.len() < length {
-        return Written::Refused(Refusal::OutputLength);
-    }
-    bytes::copy(&made[0..length], text);
-    Written::Length(length)
+    lending::lend(&made[0..length], text)
 }

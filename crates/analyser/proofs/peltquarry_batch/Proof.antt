@@ -7,15 +7,6 @@ use borrow.Author.Needs.{needs}
 use Rattle.analyser.proofs.peltquarry_batch.Statement.{statement}
 use Rattle.analyser.proofs.peltquarry_batch.Tie as tie
 
-judge-batch-requires : tie.Need-judge-batch-requires
-judge-batch-requires c κs = search needs
-
-of-written-requires : tie.Need-of-written-requires
-of-written-requires c κs = search needs
-
-same-length : tie.Need-same-length
-same-length c = search needs
-
 returns : tie.Need-returns
 returns c =
     let wrote = c .before .before .before in
@@ -24,4 +15,4 @@ returns c =
     (written-code o (c .of-written .ensures) (wrote .judge-batch .ensures .0), wrote .judge-batch .ensures .1 .0)
 
 pub peltquarry-batch-spec : {M : Type 1} → statement M
-peltquarry-batch-spec = tie.close (tie.spec judge-batch-requires of-written-requires same-length returns)
+peltquarry-batch-spec = tie.close (tie.spec (λ c κs. search needs) (λ c κs. search needs) (λ c. search needs) returns)

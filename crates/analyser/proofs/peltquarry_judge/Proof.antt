@@ -9,30 +9,6 @@ use borrow.Author.Needs.{needs}
 use Rattle.analyser.proofs.peltquarry_judge.Statement.{statement}
 use Rattle.analyser.proofs.peltquarry_judge.Tie as tie
 
-judge-requires : tie.Need-judge-requires
-judge-requires c κs = search needs
-
-enum-known-four : tie.Need-enum-known-four
-enum-known-four c = search needs
-
-numbers-requires : tie.Need-numbers-requires
-numbers-requires c κs = search needs
-
-slice-aggregate-lend : tie.Need-slice-aggregate-lend
-slice-aggregate-lend c = search needs
-
-lend-requires : tie.Need-lend-requires
-lend-requires c κs = search needs
-
-enum-known-why : tie.Need-enum-known-why
-enum-known-why c = search needs
-
-number-requires : tie.Need-number-requires
-number-requires c κs = search needs
-
-same-length : tie.Need-same-length
-same-length c = search needs
-
 returns : tie.Need-returns
 unfolding judgedWords
 returns c =
@@ -58,13 +34,13 @@ pub peltquarry-judge-spec : {M : Type 1} → statement M
 peltquarry-judge-spec =
     tie.close
     (tie.spec
-    judge-requires
-    enum-known-four
-    numbers-requires
-    slice-aggregate-lend
-    lend-requires
-    enum-known-why
-    number-requires
-    same-length
+    (λ c κs. search needs)
+    (λ c. search needs)
+    (λ c κs. search needs)
+    (λ c. search needs)
+    (λ c κs. search needs)
+    (λ c. search needs)
+    (λ c κs. search needs)
+    (λ c. search needs)
     returns
     returns-2)

@@ -9,21 +9,6 @@ use borrow.Author.Needs.{needs}
 use Rattle.analyser.proofs.peltquarry_list.Statement.{statement}
 use Rattle.analyser.proofs.peltquarry_list.Tie as tie
 
-list-requires : tie.Need-list-requires
-list-requires c κs = search needs
-
-enum-known-n : tie.Need-enum-known-n
-enum-known-n c = search needs
-
-enum-known-why : tie.Need-enum-known-why
-enum-known-why c = search needs
-
-number-requires : tie.Need-number-requires
-number-requires c κs = search needs
-
-same-length : tie.Need-same-length
-same-length c = search needs
-
 returns : tie.Need-returns
 returns c =
     let bound = c .before in
@@ -32,9 +17,6 @@ returns c =
     let o = fitting (length (a .text .now)) (given (listText (a .bytes .now))) in
     let told = sym (ap writtenOutcome (bound .n .given .1)) ∙ wrote .list .ensures .0 in
     (written-code o refl told, (wrote .list .ensures .1 .0, written-size o (a .size .now) told))
-
-same-length-2 : tie.Need-same-length-2
-same-length-2 c = search needs
 
 returns-2 : tie.Need-returns-2
 returns-2 c =
@@ -49,11 +31,11 @@ pub peltquarry-list-spec : {M : Type 1} → statement M
 peltquarry-list-spec =
     tie.close
     (tie.spec
-    list-requires
-    enum-known-n
-    enum-known-why
-    number-requires
-    same-length
+    (λ c κs. search needs)
+    (λ c. search needs)
+    (λ c. search needs)
+    (λ c κs. search needs)
+    (λ c. search needs)
     returns
-    same-length-2
+    (λ c. search needs)
     returns-2)

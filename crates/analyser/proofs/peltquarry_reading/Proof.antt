@@ -9,24 +9,6 @@ use borrow.Author.Needs.{needs}
 use Rattle.analyser.proofs.peltquarry_reading.Statement.{statement}
 use Rattle.analyser.proofs.peltquarry_reading.Tie as tie
 
-to-reading-requires : tie.Need-to-reading-requires
-to-reading-requires c κs = search needs
-
-enum-known-reading : tie.Need-enum-known-reading
-enum-known-reading c = search needs
-
-lend-reading-requires : tie.Need-lend-reading-requires
-lend-reading-requires c κs = search needs
-
-enum-known-why : tie.Need-enum-known-why
-enum-known-why c = search needs
-
-number-requires : tie.Need-number-requires
-number-requires c κs = search needs
-
-same-length : tie.Need-same-length
-same-length c = search needs
-
 returns : tie.Need-returns
 unfolding analysedWords
 returns c =
@@ -50,11 +32,11 @@ pub peltquarry-reading-spec : {M : Type 1} → statement M
 peltquarry-reading-spec =
     tie.close
     (tie.spec
-    to-reading-requires
-    enum-known-reading
-    lend-reading-requires
-    enum-known-why
-    number-requires
-    same-length
+    (λ c κs. search needs)
+    (λ c. search needs)
+    (λ c κs. search needs)
+    (λ c. search needs)
+    (λ c κs. search needs)
+    (λ c. search needs)
     returns
     returns-2)

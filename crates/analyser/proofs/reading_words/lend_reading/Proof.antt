@@ -9,27 +9,6 @@ use borrow.Author.Needs.{needs}
 use Rattle.analyser.proofs.reading_words.lend_reading.Statement.{statement}
 use Rattle.analyser.proofs.reading_words.lend_reading.Tie as tie
 
-words-requires : tie.Need-words-requires
-words-requires c κs = search needs
-
-enum-known-words : tie.Need-enum-known-words
-enum-known-words c = search needs
-
-slice-aggregate-lend : tie.Need-slice-aggregate-lend
-slice-aggregate-lend c = search needs
-
-lend-requires : tie.Need-lend-requires
-lend-requires c κs = search needs
-
-enum-known-why : tie.Need-enum-known-why
-enum-known-why c = search needs
-
-number-requires : tie.Need-number-requires
-number-requires c κs = search needs
-
-same-length : tie.Need-same-length
-same-length c = search needs
-
 returns : tie.Need-returns
 unfolding readingWords
 returns c =
@@ -53,12 +32,12 @@ pub lend-reading-spec : {M : Type 1} → statement M
 lend-reading-spec =
     tie.close
     (tie.spec
-    words-requires
-    enum-known-words
-    slice-aggregate-lend
-    lend-requires
-    enum-known-why
-    number-requires
-    same-length
+    (λ c κs. search needs)
+    (λ c. search needs)
+    (λ c. search needs)
+    (λ c κs. search needs)
+    (λ c. search needs)
+    (λ c κs. search needs)
+    (λ c. search needs)
     returns
     returns-2)

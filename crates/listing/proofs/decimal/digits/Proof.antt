@@ -23,9 +23,6 @@ add-count c =
     let at = c .before in
     omega (arith, at .loop .inv .1, decimal-some (at .loop .rest), decimal-most (at .before .args .n))
 
-loop-less : tie.Need-loop-less Inv-loop μ-loop
-loop-less c = search needs
-
 loop-again : tie.Need-loop-again Inv-loop μ-loop
 loop-again c =
     let at = c .before in
@@ -39,4 +36,4 @@ returns c =
 
 pub digits-spec : {M : Type 1} → statement M
 digits-spec =
-    tie.close (tie.spec Inv-loop μ-loop loop-holds add-count loop-less loop-again returns)
+    tie.close (tie.spec Inv-loop μ-loop loop-holds add-count (λ c. search needs) loop-again returns)

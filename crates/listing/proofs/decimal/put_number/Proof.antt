@@ -21,12 +21,6 @@ Inv-loop text₀ at n next last₀ rest₀ text last rest =
 abbrev μ-loop : tie.MeasureT-loop
 μ-loop text₀ at n next last₀ rest₀ text last rest = rest
 
-digits-requires : tie.Need-digits-requires Inv-loop μ-loop
-digits-requires c κs = search needs
-
-add-next : tie.Need-add-next Inv-loop μ-loop
-add-next c = search needs
-
 sub-last : tie.Need-sub-last Inv-loop μ-loop
 sub-last c = omega (arith, decimal-some (c .before .before .args .n))
 
@@ -35,20 +29,11 @@ loop-holds c =
     let some = decimal-some (c .before .before .args .n) in
     (search needs, omega arith, omega arith, refl, refl)
 
-digit-code-requires : tie.Need-digit-code-requires Inv-loop μ-loop
-digit-code-requires c κs = search needs
-
-slice-write-text : tie.Need-slice-write-text Inv-loop μ-loop
-slice-write-text c = search needs
-
 sub-last-2 : tie.Need-sub-last-2 Inv-loop μ-loop
 sub-last-2 c =
     let at = c .before .before in
     let rest = at .loop .rest in
     omega (arith, decimal-some (rest / 10), length-more rest (omega arith) (at .loop .inv .0))
-
-loop-less : tie.Need-loop-less Inv-loop μ-loop
-loop-less c = search needs
 
 loop-again : tie.Need-loop-again Inv-loop μ-loop
 loop-again c =
@@ -66,15 +51,6 @@ loop-again c =
       put-last text _ last rest _ (omega arith) small (at .loop .inv .1) (omega arith) (c .digit-code .ensures) ∙ at .loop .inv .4,
     )
 
-digit-code-requires-2 : tie.Need-digit-code-requires-2 Inv-loop μ-loop
-digit-code-requires-2 c κs = search needs
-
-slice-write-text-2 : tie.Need-slice-write-text-2 Inv-loop μ-loop
-slice-write-text-2 c = search needs
-
-same-length : tie.Need-same-length Inv-loop μ-loop
-same-length c = search needs
-
 returns : tie.Need-returns Inv-loop μ-loop
 returns c =
     let at = c .before .before in
@@ -90,16 +66,16 @@ put-number-spec =
     (tie.spec
     Inv-loop
     μ-loop
-    digits-requires
-    add-next
+    (λ c κs. search needs)
+    (λ c. search needs)
     sub-last
     loop-holds
-    digit-code-requires
-    slice-write-text
+    (λ c κs. search needs)
+    (λ c. search needs)
     sub-last-2
-    loop-less
+    (λ c. search needs)
     loop-again
-    digit-code-requires-2
-    slice-write-text-2
-    same-length
+    (λ c κs. search needs)
+    (λ c. search needs)
+    (λ c. search needs)
     returns)

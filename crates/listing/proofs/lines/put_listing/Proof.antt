@@ -1,93 +1,83 @@
--- The first line is written, then the rows after it.
+-- The line of the count is written; after each turn the lines of the rows that are left have to be written behind it.
 use borrow.Author.Needs.{needs}
-use mathlib.Core.List.{List, [], _∷_}
-use mathlib.Core.Path.{ap, _∙_}
+use mathlib.Core.List.{[], _∷_}
+use mathlib.Core.Path.{_≡_, refl}
 use native.Mathlib.Omega.{arith}
-use Prim.Native.Nat.{ℕ, _+_}
+use Prim.Native.Nat.{_+_, _*_, _≤_}
 use lib.ListN.{length, getD, drop, length-append}
+use Rattle.batch.specs.Rows.{rowWords}
 use Rattle.listing.specs.Listing.{line, rowLines, listingText}
-use Rattle.refusal.specs.Lent.{placed}
-use Rattle.listing.proofs.PartLaws.{second-room, both-written}
-use Rattle.listing.proofs.LineLaws.{first-lent, rows-lent, rows-whole}
+use Rattle.listing.proofs.PartLaws.{second-room, both-written, Left, left-all, left-none, left-room, left-next}
+use Rattle.listing.proofs.LineLaws.{rows-next, rows-none}
 use Rattle.listing.proofs.lines.put_listing.Statement.{statement}
 use Rattle.listing.proofs.lines.put_listing.Tie as tie
 
-shared-slice-read-count : tie.Need-shared-slice-read-count
-shared-slice-read-count c = search needs
+abbrev Inv-loop : tie.InvT-loop
+Inv-loop text₀ words count next₀ from₀ left₀ text next from left =
+    (from + rowWords * left ≤ length words) × Left text₀ next₀ (rowLines count (drop 1 words)) text next (rowLines left (drop from words))
 
-sub-put-line : tie.Need-sub-put-line
-sub-put-line c = search needs
+abbrev μ-loop : tie.MeasureT-loop
+μ-loop text₀ words count next₀ from₀ left₀ text next from left = left
 
-part-put-line-start : tie.Need-part-put-line-start
-part-put-line-start c = search needs
-
-part-put-line-end : tie.Need-part-put-line-end
-part-put-line-end c = search needs
-
-put-line-requires : tie.Need-put-line-requires
-unfolding listingText
-put-line-requires c κs =
-    let start = c .before .before .before .before .before in
+put-field-requires : tie.Need-put-field-requires Inv-loop μ-loop
+unfolding listingText line
+put-field-requires c κs =
+    let start = c .before .before .before .before in
     let words = start .args .words .now in
-    let first = ap length (first-lent words (search needs)) in
-    omega (arith, first, start .pre .1, length-append (line (getD words 0 0 ∷ [])) (rowLines (getD words 0 0) (drop 1 words)))
+    omega (arith, start .pre .1, length-append (line (getD words 0 0 ∷ [])) (rowLines (getD words 0 0) (drop 1 words)))
 
-cast-put-rows : tie.Need-cast-put-rows
-cast-put-rows c = search needs
-
-sub-put-rows : tie.Need-sub-put-rows
-sub-put-rows c = search needs
-
-part-put-rows-start : tie.Need-part-put-rows-start
-part-put-rows-start c = search needs
-
-part-put-rows-end : tie.Need-part-put-rows-end
-part-put-rows-end c = search needs
-
-put-rows-requires : tie.Need-put-rows-requires
-unfolding listingText
-put-rows-requires c κs =
-    let put = c .before .before .before .before in
-    let start = put .before .before .before .before .before .before in
+loop-holds : tie.Need-loop-holds Inv-loop μ-loop
+unfolding listingText line
+loop-holds c =
+    let put = c .before .before in
+    let start = put .before .before .before .before .before in
     let words = start .args .words .now in
-    let first = first-lent words (search needs) in (
-      rows-whole words (start .pre .0 .size),
-      second-room (start .args .text .now) (line (getD words 0 0 ∷ [])) _ (start .pre .1)
-          (put .put-line .ensures .1 ∙ ap (λ (s : List ℕ). placed (start .args .text .now) 0 s) first)
-          (put .put-line .ensures .0 ∙ ap (λ (s : List ℕ). 0 + length s) first)
-          (rows-lent _ words),
-    )
+    let room = second-room (start .args .text .now) (line (getD words 0 0 ∷ [])) (rowLines (getD words 0 0) (drop 1 words)) (start .pre .1)
+    (put .put-field .ensures .1) (put .put-field .ensures .0) refl in
+    (search needs, left-all _ _ _ room)
 
-same-length : tie.Need-same-length
+put-row-requires : tie.Need-put-row-requires Inv-loop μ-loop
+put-row-requires c κs =
+    let at = c .before .before in
+    let words = at .before .before .before .before .before .before .before .before .args .words .now in
+    (search needs, left-room (at .loop .inv .1) (rows-next words (at .loop .from) (at .loop .left) (search needs)))
+
+loop-again : tie.Need-loop-again Inv-loop μ-loop
+loop-again c =
+    let put = c .before .before in
+    let at = put .before .before .before in
+    let words = at .before .before .before .before .before .before .before .before .args .words .now in
+    let next = rows-next words (at .loop .from) (at .loop .left) (search needs) in
+    (search needs, left-next (at .loop .inv .1) next (put .put-row .ensures .1) (put .put-row .ensures .0))
+
+same-length : tie.Need-same-length Inv-loop μ-loop
 same-length c = search needs
 
-returns : tie.Need-returns
-unfolding listingText
+returns : tie.Need-returns Inv-loop μ-loop
+unfolding listingText line
 returns c =
-    let rows = c .before .before in
-    let put = rows .before .before .before .before .before in
-    let start = put .before .before .before .before .before .before in
+    let at = c .before in
+    let put = at .before .before .before in
+    let start = put .before .before .before .before .before in
     let words = start .args .words .now in
-    let first = first-lent words (search needs) in
-    both-written (start .args .text .now) (line (getD words 0 0 ∷ [])) _ (start .pre .1)
-    (put .put-line .ensures .1 ∙ ap (λ (s : List ℕ). placed (start .args .text .now) 0 s) first)
-    (put .put-line .ensures .0 ∙ ap (λ (s : List ℕ). 0 + length s) first)
-    (rows-lent _ words)
-    (rows .put-rows .ensures .1) (rows .put-rows .ensures .0)
+    let none : at .loop .left ≡ 0 = search needs in
+    let rows = left-none (rw (none, rows-none) at (at .loop .inv .1)) in
+    both-written (start .args .text .now) (line (getD words 0 0 ∷ [])) (rowLines (getD words 0 0) (drop 1 words)) (start .pre .1)
+    (put .put-field .ensures .1) (put .put-field .ensures .0) refl (rows .1) (rows .0)
 
 pub put-listing-spec : {M : Type 1} → statement M
 put-listing-spec =
     tie.close
     (tie.spec
-    shared-slice-read-count
-    sub-put-line
-    part-put-line-start
-    part-put-line-end
-    put-line-requires
-    cast-put-rows
-    sub-put-rows
-    part-put-rows-start
-    part-put-rows-end
-    put-rows-requires
+    Inv-loop
+    μ-loop
+    (λ c. search needs)
+    put-field-requires
+    loop-holds
+    put-row-requires
+    (λ c. search needs)
+    (λ c. search needs)
+    (λ c. search needs)
+    loop-again
     same-length
     returns)

@@ -1,19 +1,63 @@
--- The line of the row's words is the row's line.
+-- After i turns the line of the fields after the first i is left to write.
 use borrow.Author.Needs.{needs}
-use Rattle.listing.specs.Listing.{rowLine}
+use Prim.Native.Nat.{_-_, _≤_}
+use lib.ListN.{drop}
+use Rattle.batch.specs.Rows.{rowWords}
+use Rattle.listing.specs.Listing.{line, rowLine}
+use Rattle.listing.specs.Steps.{rowAt}
+use Rattle.listing.proofs.PartLaws.{Left, left-all, left-none, left-room, left-next}
+use Rattle.listing.proofs.LineLaws.{row-next, row-ends}
 use Rattle.listing.proofs.lines.put_row.Statement.{statement}
 use Rattle.listing.proofs.lines.put_row.Tie as tie
 
-put-line-requires : tie.Need-put-line-requires
-unfolding rowLine
-put-line-requires c κs = c .before .before .before .pre
+abbrev Inv-loop : tie.InvT-loop
+Inv-loop text₀ at words from next₀ i₀ text next i =
+    (i ≤ rowWords) × Left text₀ at (rowLine (rowAt words from)) text next (line (drop i (rowAt words from)))
 
-same-length : tie.Need-same-length
-same-length c = search needs
+abbrev μ-loop : tie.MeasureT-loop
+μ-loop text₀ at words from next₀ i₀ text next i = rowWords - i
 
-returns : tie.Need-returns
+loop-holds : tie.Need-loop-holds Inv-loop μ-loop
 unfolding rowLine
-returns c = c .before .before .put-line .ensures
+loop-holds c = (search needs, left-all _ _ _ (c .before .before .pre .1))
+
+put-field-requires : tie.Need-put-field-requires Inv-loop μ-loop
+put-field-requires c κs =
+    let at = c .before .before .before in
+    let start = at .before .before .before in
+    left-room (at .loop .inv .1) (row-next (start .args .words .now) (start .args .from) (start .pre .0) (at .loop .i) (search needs))
+
+loop-again : tie.Need-loop-again Inv-loop μ-loop
+loop-again c =
+    let put = c .before .before in
+    let at = put .before .before .before .before in
+    let start = at .before .before .before in
+    let next = row-next (start .args .words .now) (start .args .from) (start .pre .0) (at .loop .i) (search needs) in
+    (search needs, left-next (at .loop .inv .1) next (put .put-field .ensures .1) (put .put-field .ensures .0))
+
+same-length : tie.Need-same-length Inv-loop μ-loop
+same-length c = c .before .loop .inv .1 .long
+
+returns : tie.Need-returns Inv-loop μ-loop
+returns c =
+    let at = c .before in
+    let start = at .before .before .before in
+    left-none (rw (row-ends (start .args .words .now) (start .args .from) (start .pre .0) (at .loop .i) (search needs)) at (at .loop .inv .1))
 
 pub put-row-spec : {M : Type 1} → statement M
-put-row-spec = tie.close (tie.spec put-line-requires same-length returns)
+put-row-spec =
+    tie.close
+    (tie.spec
+    Inv-loop
+    μ-loop
+    loop-holds
+    (λ c. search needs)
+    (λ c. search needs)
+    (λ c. search needs)
+    (λ c. search needs)
+    put-field-requires
+    (λ c. search needs)
+    (λ c. search needs)
+    loop-again
+    same-length
+    returns)

@@ -1,0 +1,4 @@
+-- The laws behind this crate's contracts. Other crates cite `Laws`, and nothing else of it.
+mod PackedLaws
+mod RoomLaws
+pub mod Laws
