@@ -7,8 +7,7 @@ use Prim.Native.Nat.{ℕ, _+_, _-_, _≤_, _<_}
 use native.Mathlib.Omega.{arith}
 use native.Mathlib.Nat.{add-assoc}
 use native.Mathlib.Numerals.{add-one}
-use borrow.Author.Tests.{le-leb, lt-leb, leb-true}
-use lib.Dec.{leb}
+use borrow.Author.Tests.{le-leb, lt-leb}
 use lib.ListN.{length, getD, take, drop, set, length-drop}
 use lib.Seq.{take-add, take-suc-set, drop-drop, length-take-le}
 use Rattle.refusal.specs.Outcome.{Outcome, demand}
@@ -19,7 +18,7 @@ use Rattle.refusal.specs.declared.Refusal.the-variants as refusal
 use Rattle.refusal.proofs.Testing.{both}
 use Rattle.chart.specs.declared.Last.{Last}
 use Rattle.chart.specs.declared.Last.the-variants as last
-use Rattle.chart.specs.Charts.{leastSetup, mostSetup, mostLater, countsFit, allValues, lastSignalOf, lastOutcome}
+use Rattle.chart.specs.Charts.{countsFit, allValues, lastSignalOf, lastOutcome}
 use Rattle.chart.proofs.Laws.{last-given, last-refused, values-append}
 use Rattle.batch.specs.declared.ChartRead.{ChartRead}
 use Rattle.batch.specs.declared.ChartRead.the-variants as chart-read
@@ -54,12 +53,6 @@ module _ (used s : List ℕ) where
       chart-values f = rw (le-leb headWords (length s) h, e, ← m, ← n, f)
 
 -- ---- the values
-
-pub counts-most : (setup later : ℕ) → countsFit setup later ≡ true → (setup ≤ mostSetup) × (later ≤ mostLater)
-unfolding countsFit
-counts-most setup later e =
-    let h = both _ _ (both (leb leastSetup setup) _ e .1) in
-    (leb-true setup mostSetup (h .0), leb-true later mostLater (h .1))
 
 module _ (e setup later : ℕ) (s : List ℕ) where
   pub values-short : length s < setup + later → valuesOf e setup later s ≡ refused (numberOf refusal.BatchLength)

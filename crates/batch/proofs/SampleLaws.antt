@@ -20,6 +20,8 @@ use Rattle.batch.specs.Said.{bufferWords, flaggedBy, rowBy, rowsBy, samp
 use Rattle.batch.proofs.ManyLaws.{then-taken, then-refused, many-none, many-refused, many-next, section-short, section-over, section-begins}
 use Rattle.batch.proofs.SliceLaws.{part-of}
 use Rattle.refusal.proofs.PlaceLaws.{placed-take, length-placed}
+use Rattle.words.specs.Room.{placedWithin}
+use Rattle.words.proofs.Laws.{placed-all}
 
 -- ---- one sample
 
@@ -99,13 +101,14 @@ module _ (words : List ℕ) (count : ℕ) (es gs buffer : List ℕ) (at size i :
 
   -- a turn: the sample is taken, and its row placed
   pub making-next : (v : Four) (row after : List ℕ) → i < count → at + recordWords ≤ length words
-      → judgementOf lent ≡ given v → row ≡ rowWith lent v (flaggedBy es gs lent) → after ≡ placed buffer size row
+      → judgementOf lent ≡ given v → row ≡ rowWith lent v (flaggedBy es gs lent) → after ≡ placedWithin buffer size row
       → Making words count es gs after (at + recordWords) (size + rowWords) (i + 1)
-  making-next v row after l h e r p =
+  making-next v row after l h e r put =
       let a : Sample = record { words = take recordWords (drop at words); verdicts = v } in
       let same : row ≡ rowBy es gs a = r ∙ ap (λ (w : List ℕ). rowWith w v (flaggedBy es gs w)) (part-of words at recordWords) in
       let six : length row ≡ rowWords = ap length same in
       let fits : size + length row ≤ length buffer = omega (arith, m .few, m .made, m .room, six) in
+      let p = put ∙ placed-all buffer size row fits in
       let long : recordWords ≤ length (drop at words) = omega (arith, length-drop at words) in
       record {
         turns = omega arith;

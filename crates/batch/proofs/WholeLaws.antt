@@ -10,13 +10,16 @@ use lib.Seq.{length-take-le}
 use Rattle.refusal.specs.Outcome.{Outcome, demand}
 use Rattle.refusal.specs.Outcome.Outcome.{given, refused}
 use Rattle.refusal.specs.Numbers.{numberOf}
-use Rattle.refusal.specs.Lent.{writtenOutcome, placed}
+use native.Mathlib.Omega.{arith}
+use Rattle.refusal.specs.Lent.{writtenOutcome}
 use Rattle.refusal.specs.declared.Refusal.{Refusal}
 use Rattle.refusal.specs.declared.Refusal.the-variants as refusal
 use Rattle.refusal.specs.declared.Written.{Written}
 use Rattle.refusal.specs.declared.Written.the-variants as written
 use Rattle.refusal.proofs.LentLaws.{Answers, refused-before, too-short, written as written-whole}
 use Rattle.refusal.proofs.PlaceLaws.{placed-front}
+use Rattle.words.specs.Room.{placedWithin}
+use Rattle.words.proofs.Laws.{placed-all}
 use Rattle.batch.specs.declared.Ended.{Ended}
 use Rattle.batch.specs.declared.Ended.the-variants as ended
 use Rattle.batch.specs.declared.ChartColumns.{ChartColumns}
@@ -51,10 +54,10 @@ module _ (x : Outcome (List ℕ)) (buffer : List ℕ) (r : Ended) (m : MadeSaid 
     pub made-over : (old : List ℕ) → length old < size → Done x old (written.Refused refusal.OutputLength) old
     made-over old l = too-short x old (take size buffer) (said .0) (rw whole l)
 
-    pub made-placed : (old new : List ℕ) → size ≤ length old → new ≡ placed old 0 (take (size - 0) (drop 0 buffer)) → Done x old (written.Length size) new
+    pub made-placed : (old new : List ℕ) → size ≤ length old → new ≡ placedWithin old 0 (take (size - 0) (drop 0 buffer)) → Done x old (written.Length size) new
     made-placed old new l p =
         written-whole x old (take size buffer) (said .0) (rw whole l) (sym whole)
-        (p ∙ ap (placed old 0) (front-of buffer size) ∙ placed-front old (take size buffer))
+        (p ∙ ap (placedWithin old 0) (front-of buffer size) ∙ placed-all old 0 (take size buffer) (omega (arith, whole, l)) ∙ placed-front old (take size buffer))
 
 -- ---- the batch
 

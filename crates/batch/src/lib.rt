@@ -79,7 +79,7 @@ fn judge_samples(words: &[u32], elements: &[u32], signals: &[u32], out: &mut [u3
             if out.len() < size {
                 return Written::Refused(Refusal::OutputLength);
             }
-            rows::place(out, 0, &buffer[0..size]);
+            words::place(&buffer[0..size], out, 0);
             Written::Length(size)
         }
         Ended::Refused(why) => Written::Refused(why),

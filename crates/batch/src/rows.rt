@@ -6,7 +6,6 @@ ghost use mathlib.Core.Bool.{_&&_, not, cond};
 ghost use Prim.Native.Nat.{_+_, _≤_};
 ghost use lib.Dec.{eqb};
 ghost use lib.ListN.{length};
-ghost use Rattle.refusal.specs.Lent.{placed};
 ghost use Rattle.judge.specs.Record.{recordWords, hasReading};
 ghost use Rattle.judge.specs.Judgements.{numbersOf};
 ghost use Rattle.batch.specs.Rows.{rowWith};
@@ -59,16 +58,4 @@ fn flagged_by(words: &[u32], element: u32, signal: u32) -> bool
         return false;
     }
     record::has_reading(words, element)
-}
-
-// Copies the words of a row into the lent slice, from a place on.
-pub fn place(out: &mut [u32], at: usize, row: &[u32])
-    requires { ⌜ at + length (now row) ≤ length (now out) ⌝ }
-    ensures { λ _. ⌜ now (out .exit) ≡ placed (now (out .entry)) at (now (row .entry)) ⌝ }
-{
-    let mut i: usize = 0;
-    while i < row.len() {
-        out[at + i] = row[i];
-        i += 1;
-    }
 }

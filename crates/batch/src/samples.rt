@@ -52,7 +52,7 @@ fn make_all(
         match judge::judge(record) {
             Judgement::Judged(verdicts) => {
                 let row = rows::row(record, verdicts, elements, signals);
-                rows::place(buffer, size, &row);
+                words::place(&row, buffer, size);
                 at = end;
                 size += ROW_WORDS;
                 i += 1;

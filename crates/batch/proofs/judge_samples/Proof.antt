@@ -26,7 +26,7 @@ part-place-start c = search needs
 
 part-place-end : tie.Need-part-place-end
 part-place-end c =
-    let told = c .before .before .before .before in
+    let told = c .before .before .before in
     let made = told .before .before .before in
     let fits = made-fits _ (made .make-rows .last .1 .1 .1 .0) _ (made .make-rows .ensures) _ (told .size .given .1) in
     search needs
@@ -45,7 +45,7 @@ returns-2 c =
     let placing = c .before .before in
     let told = placing .before .before .before .before .before .before in
     let made = told .before .before .before in
-    made-placed _ (made .make-rows .last .1 .1 .1 .0) _ (made .make-rows .ensures) _ (told .size .given .1) _ _ (search needs) (placing .place .ensures)
+    made-placed _ (made .make-rows .last .1 .1 .1 .0) _ (made .make-rows .ensures) _ (told .size .given .1) (made .before .before .before .before .before .before .args .out .now) _ (search needs) (placing .place .ensures)
 
 returns-3 : tie.Need-returns-3
 returns-3 c =

@@ -3,7 +3,8 @@ use native.Mathlib.Omega.{arith}
 use denote.Ref.{now}
 use lib.ListN.{length-drop}
 use Rattle.batch.specs.Batches.{headWords}
-use Rattle.batch.proofs.ChartLaws.{counts-most, values-short, values-taken, values-refused}
+use Rattle.chart.proofs.Laws.{counts-most}
+use Rattle.batch.proofs.ChartLaws.{values-short, values-taken, values-refused}
 use borrow.Author.Needs.{needs}
 use Rattle.batch.proofs.charts.read_values.Statement.{statement}
 use Rattle.batch.proofs.charts.read_values.Tie as tie

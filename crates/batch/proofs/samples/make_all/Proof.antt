@@ -1,13 +1,10 @@
 -- `Making` holds before each turn: the rows made so far are the first words of the buffer, and what is left of the words
 -- decides the rest. Each way out is a law of it.
-use mathlib.Core.Path.{_≡_, sym, ap, _∙_}
+use mathlib.Core.Path.{sym, ap, _∙_}
 use Prim.Native.Nat.{_-_}
-use native.Mathlib.Omega.{arith}
-use lib.ListN.{length}
 use borrow.Author.Needs.{needs}
 use Rattle.judge.specs.Judgements.{judgementOutcome}
 use Rattle.judge.proofs.Laws.{judged-length}
-use Rattle.batch.specs.Rows.{rowWords}
 use Rattle.batch.proofs.SampleLaws.{Making, making-begins, making-next, making-short, making-refused, making-left, making-done}
 use Rattle.batch.proofs.samples.make_all.Statement.{statement}
 use Rattle.batch.proofs.samples.make_all.Tie as tie
@@ -57,10 +54,7 @@ slice-aggregate-place : tie.Need-slice-aggregate-place Inv-loop μ-loop
 slice-aggregate-place c = search needs
 
 place-requires : tie.Need-place-requires Inv-loop μ-loop
-place-requires c κs =
-    let six : length (c .before .before .row .result) ≡ rowWords = ap length (c .before .before .row .ensures) in
-    let turn = c .before .before .before .before .before .before .before .before .before .before in
-    omega (arith, six, turn .loop .inv .made, turn .loop .inv .room)
+place-requires c κs = search needs
 
 add-size : tie.Need-add-size Inv-loop μ-loop
 add-size c = search needs
