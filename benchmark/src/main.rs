@@ -13,7 +13,7 @@ mod rows;
 use rows::Row;
 use std::time::{Duration, Instant};
 
-const ROUNDS: usize = 25;
+const ROUNDS: usize = 100;
 
 fn timed(run: &mut dyn FnMut() -> u64) -> Duration {
     let start = Instant::now();
@@ -21,37 +21,54 @@ fn timed(run: &mut dyn FnMut() -> u64) -> Duration {
     start.elapsed()
 }
 
-/// The least time of each side; the sides take turns, so that a slow moment of
-/// the machine meets both.
-fn least(row: &mut Row) -> (Duration, Duration) {
-    let mut proved = Duration::MAX;
-    let mut plain = Duration::MAX;
-    for _ in 0..ROUNDS {
-        proved = proved.min(timed(&mut row.proved));
-        plain = plain.min(timed(&mut row.plain));
+/// A row with the least time that each side took so far.
+struct Measured {
+    row: Row,
+    proved: Duration,
+    plain: Duration,
+}
+
+impl Measured {
+    fn new(row: Row) -> Measured {
+        Measured {
+            row,
+            proved: Duration::MAX,
+            plain: Duration::MAX,
+        }
     }
-    (proved, plain)
+
+    fn run(&mut self) {
+        self.proved = self.proved.min(timed(&mut self.row.proved));
+        self.plain = self.plain.min(timed(&mut self.row.plain));
+    }
+
+    fn print(&self) {
+        println!(
+            "{:<34}{:>12.1}{:>12.1}{:>8.2}",
+            self.row.name,
+            per_piece(self.proved, self.row.pieces),
+            per_piece(self.plain, self.row.pieces),
+            self.proved.as_secs_f64() / self.plain.as_secs_f64()
+        );
+    }
 }
 
 fn per_piece(time: Duration, pieces: usize) -> f64 {
     time.as_secs_f64() * 1e9 / pieces as f64
 }
 
+/// The sides and the rows take turns, so that a slow moment of the machine
+/// meets all of them, and each has its share of the quiet ones.
 fn print_table() {
+    let mut rows: Vec<Measured> = rows::all().into_iter().map(Measured::new).collect();
+    for _ in 0..ROUNDS {
+        rows.iter_mut().for_each(Measured::run);
+    }
     println!(
         "{:<34}{:>12}{:>12}{:>8}",
         "", "proved ns", "Rust ns", "ratio"
     );
-    for mut row in rows::all() {
-        let (proved, plain) = least(&mut row);
-        println!(
-            "{:<34}{:>12.1}{:>12.1}{:>8.2}",
-            row.name,
-            per_piece(proved, row.pieces),
-            per_piece(plain, row.pieces),
-            proved.as_secs_f64() / plain.as_secs_f64()
-        );
-    }
+    rows.iter().for_each(Measured::print);
 }
 
 fn run_once(side: &str, name: &str) {

@@ -10,7 +10,7 @@ use Rattle.refusal.specs.declared.Refusal.the-variants as refusal
 use Rattle.refusal.specs.Numbers.{numberOf}
 use Rattle.refusal.specs.Outcome.Outcome.{given, refused}
 use Rattle.refusal.proofs.PlaceLaws.{placed-whole}
-use Rattle.judge.specs.Record.{recordWords}
+use Rattle.record.specs.Record.{recordWords}
 use Rattle.docket.specs.Terms.{Standing, DocketTerms}
 use Rattle.docket.specs.Terms.Standing.{«open», consistent, confirmed, unsettled}
 use Rattle.words.specs.Room.{placedWithin}

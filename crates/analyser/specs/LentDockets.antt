@@ -6,7 +6,7 @@ use lib.ListN.{length}
 use Rattle.refusal.specs.Outcome.{Outcome}
 use Rattle.refusal.specs.Outcome.Outcome.{given, refused}
 use Rattle.refusal.specs.Lent.{fitting, lentAfter}
-use Rattle.judge.specs.Record.{recordWords}
+use Rattle.record.specs.Record.{recordWords}
 use Rattle.judge.specs.Judgements.{Four, judgementOf}
 use Rattle.docket.specs.Terms.{DocketTerms, Reply, OfferedTerms}
 use Rattle.docket.specs.Terms.Reply.{taken}

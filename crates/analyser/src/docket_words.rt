@@ -1,14 +1,14 @@
 // The words of a docket: where it stands, its count, and the words of its last record.
 use docket::Docket;
 use docket::State;
-use judge::WORDS;
+use record::WORDS;
 use refusal::Refusal;
 ghost use mathlib.Core.Path.{_≡_};
 ghost use Prim.Native.Nat.{_≤_};
 ghost use lib.ListN.{length, getD};
 ghost use Rattle.refusal.specs.Outcome.Outcome.{given};
 ghost use Rattle.refusal.specs.Lent.{fitting, lentAfter};
-ghost use Rattle.judge.specs.Record.{recordWords};
+ghost use Rattle.record.specs.Record.{recordWords};
 ghost use Rattle.docket.specs.Terms.{standingOf, docketOf};
 ghost use Rattle.analyser.specs.Codes.{codeOf};
 ghost use Rattle.analyser.specs.DocketWords.{standingNumber, docketWords, docketLength, docketAt};

@@ -1,6 +1,6 @@
-// The judge, the docket, control charts and batches for programs in C, which see a slice as a pointer and a length (include/peltquarry.h). Each call
-// returns 0 where it did what was asked, else the number of document 01's refusal, and then the words lent to it are as they
-// were. An answer goes into the first words of the lent output.
+// The judge, the docket, control charts and batches for programs in C, which see a slice as a pointer and a length
+// (include/peltquarry.h). Each call returns 0 where it did what was asked, else the number of document 01's refusal, and then
+// the words lent to it are as they were. An answer goes into the first words of the lent output.
 mod codes;
 mod docket_words;
 mod lending;

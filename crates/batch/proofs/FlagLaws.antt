@@ -7,7 +7,7 @@ use native.Mathlib.Numerals.{add-one}
 use lib.Dec.{eqb}
 use lib.ListN.{length, getD, drop, drop-of-length-le}
 use lib.Seq.{drop-cons}
-use Rattle.judge.specs.Record.{hasReading}
+use Rattle.record.specs.Record.{hasReading}
 use Rattle.batch.specs.Batches.{Chart, elementsOf}
 use Rattle.batch.specs.Rows.{flagged}
 use Rattle.batch.specs.Said.{signalsIn, flaggedBy}

@@ -10,7 +10,7 @@ use borrow.Author.Tests.{le-leb, lt-leb, eq-eqb, ne-eqb}
 use Rattle.refusal.specs.Outcome.Outcome.{given, refused}
 use Rattle.refusal.specs.Numbers.{numberOf}
 use Rattle.refusal.specs.declared.Refusal.the-variants as refusal
-use Rattle.judge.specs.Record.{recordWords}
+use Rattle.record.specs.Record.{recordWords}
 use Rattle.judge.specs.Judgements.{Four, judgementOf}
 use Rattle.batch.specs.FromFront.{Read, taken, many}
 use Rattle.batch.specs.Batches.{Sample, mostSamples, sampleOf, samplesOf}

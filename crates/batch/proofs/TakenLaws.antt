@@ -15,7 +15,7 @@ use Rattle.refusal.specs.Numbers.{numberOf}
 use Rattle.refusal.specs.declared.Refusal.the-variants as refusal
 use Rattle.refusal.proofs.Rows.{row-given}
 use Rattle.refusal.proofs.Outcomes.{never}
-use Rattle.judge.specs.Record.{recordWords}
+use Rattle.record.specs.Record.{recordWords}
 use Rattle.judge.specs.Judgements.{Four, judgementOf}
 use Rattle.chart.specs.Charts.{countsFit, allValues}
 use Rattle.batch.specs.FromFront.{Read, taken, then, many, section}

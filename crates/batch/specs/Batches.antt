@@ -10,7 +10,7 @@ use Rattle.refusal.specs.Outcome.{Outcome, demand}
 use Rattle.refusal.specs.Outcome.Outcome.{given, refused}
 use Rattle.refusal.specs.Numbers.{numberOf}
 use Rattle.refusal.specs.declared.Refusal.the-variants as refusal
-use Rattle.judge.specs.Record.{recordWords, isElement}
+use Rattle.record.specs.Record.{recordWords, isElement}
 use Rattle.judge.specs.Judgements.{Four, judgementOf}
 use Rattle.chart.specs.Charts.{countsFit, allValues}
 use Rattle.batch.specs.FromFront.{Read, taken, then, whole, section}

@@ -8,7 +8,7 @@ use lib.Dec.{eqb}
 use lib.ListN.{length, getD, drop}
 use Rattle.refusal.specs.Outcome.{Outcome}
 use Rattle.refusal.specs.Outcome.Outcome.{given, refused}
-use Rattle.judge.specs.Record.{sampleNumber, hasReading}
+use Rattle.record.specs.Record.{sampleNumber, hasReading}
 use Rattle.judge.specs.Judgements.{Four}
 use Rattle.chart.specs.Charts.{lastWord}
 use Rattle.batch.specs.Batches.{Chart, Sample, Batch, mostSamples, batchOf}

@@ -9,7 +9,7 @@ use lib.ListN.{length, take, drop}
 use Rattle.refusal.specs.Outcome.{Outcome}
 use Rattle.refusal.specs.Outcome.Outcome.{given, refused}
 use Rattle.refusal.specs.Numbers.{numberOf}
-use Rattle.judge.specs.Record.{hasReading}
+use Rattle.record.specs.Record.{hasReading}
 use Rattle.batch.specs.declared.ChartRead.{ChartRead}
 use Rattle.batch.specs.declared.ChartRead.the-variants as chart-read
 use Rattle.batch.specs.declared.Ended.{Ended}

@@ -6,7 +6,7 @@ ghost use mathlib.Core.Bool.{_&&_, not, cond};
 ghost use Prim.Native.Nat.{_+_, _≤_};
 ghost use lib.Dec.{eqb};
 ghost use lib.ListN.{length};
-ghost use Rattle.judge.specs.Record.{recordWords, hasReading};
+ghost use Rattle.record.specs.Record.{recordWords, hasReading};
 ghost use Rattle.judge.specs.Judgements.{numbersOf};
 ghost use Rattle.batch.specs.Rows.{rowWith};
 ghost use Rattle.batch.specs.Said.{flaggedBy};
@@ -21,7 +21,7 @@ pub fn row(words: &[u32], verdicts: Verdicts, elements: &[u32], signals: &[u32])
     let ratio = verdicts.ratio;
     let nitrogen = verdicts.nitrogen;
     [
-        words[judge::NUMBER],
+        words[record::NUMBER],
         balance.number(),
         conductivity.number(),
         ratio.number(),

@@ -44,7 +44,7 @@ fn make_all(
     let mut size: usize = 1;
     let mut i: usize = 0;
     while i < count {
-        let end = at + judge::WORDS;
+        let end = at + record::WORDS;
         if words.len() < end {
             return Ended::Refused(Refusal::BatchLength);
         }

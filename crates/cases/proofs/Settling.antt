@@ -7,14 +7,14 @@ use lib.Dec.{T, leb, ltb, eqb, leb→le, ltb→lt, eqb→eq}
 use lib.Ieee.{Float, binary32, ofBits}
 use lib.Ieee.Bits.{is-true}
 use lib.Ieee.Fits.{and-l, and-r}
-use Rattle.refusal.specs.Outcome.{Outcome}
+use Rattle.refusal.specs.Outcome.{Outcome, isGiven}
 use Rattle.refusal.specs.Outcome.Outcome.{given, refused}
 use Rattle.hydrogen.specs.Floors.{leastPh, greatestPh, power, floorAt, floorOf}
 use Rattle.hydrogen.proofs.Laws.{floor-in-range, floor-is}
 use Rattle.reading.specs.Ranges.{inRange, isValue}
 use Rattle.reading.specs.Readings.{missingFrom, measuredFrom, readingOf}
 use Rattle.reading.specs.Amounts.{Amount, nearest, valueMass, valueAmount}
-use Rattle.judge.specs.Record.{phOf, conductivityOf, alkalinityOf, readAt, readingAt, massOf, massAt, isGiven, allBelow, accepted, acceptedRest}
+use Rattle.record.specs.Record.{phOf, conductivityOf, alkalinityOf, readAt, readingAt, massOf, massAt, allBelow, accepted, acceptedRest}
 use Rattle.judge.specs.Ions.{cationFactor, anionFactor, conductance, sum}
 use Rattle.judge.specs.Choices.{Ranges}
 use Rattle.judge.specs.Verdicts.{applied}
@@ -23,7 +23,7 @@ use Rattle.judge.specs.Ranges.{isWhole, ionsKnown}
 use Rattle.judge.specs.IonBalance.{balanceApplies, balanceAppliesTo, balanceLimit, balanceCheck}
 use Rattle.judge.specs.Conductivity.{conductivityLimit, conductivityCheck, measuredOf}
 use Rattle.judge.specs.Judgements.{verdictsOf, judgementOf}
-use Rattle.judge.proofs.AcceptedLaws.{Valid, accepted-given}
+use Rattle.record.proofs.AcceptedLaws.{Valid, accepted-given}
 use Rattle.judge.proofs.Laws.{valid-judged}
 use Rattle.cases.specs.Cases.{Case, bare, printed, balanceIn, conductivityIn, Holds, cases, Settled}
 

@@ -1,27 +1,24 @@
--- The admission of a record that its own tests accept is the answer to its offer, though it never tests the record held: the
--- comparison of the two does.
-use mathlib.Core.Path.{_≡_, refl, sym, ap, _∙_}
-use mathlib.Core.Bool.{Bool, true, false, not, _&&_, _||_, and-assoc, true≢false}
+-- What is done in each of the three cases is the offer as defined. In that of a repeat the record held is never tested for
+-- itself: its comparison with the repeat does that.
+use mathlib.Core.Path.{_≡_, refl, sym, _∙_}
+use mathlib.Core.Bool.{Bool, true, false, not, _&&_, true≢false}
 use mathlib.Core.List.{List}
 use Prim.Native.Nat.{ℕ, _<_}
 use lib.Dec.{ltb}
 use borrow.Author.Tests.{not-true, not-false}
-use Rattle.refusal.specs.Outcome.{Outcome}
+use Rattle.refusal.specs.Outcome.{Outcome, isGiven}
 use Rattle.refusal.specs.Outcome.Outcome.{given, refused}
 use Rattle.refusal.specs.Numbers.{numberOf}
-use Rattle.refusal.specs.declared.Refusal.{Refusal}
 use Rattle.refusal.specs.declared.Refusal.the-variants as refusal
-use Rattle.judge.specs.Record.{isGiven, sameSampleOf}
+use Rattle.record.specs.Record.{sameSampleOf}
 use Rattle.judge.specs.Judgements.{Four, judgementOf}
 use Rattle.judge.specs.Agreement.{agrees, agreementOf}
-use Rattle.docket.specs.declared.Answer.{Answer}
-use Rattle.docket.specs.declared.Answer.the-variants as answer
-use Rattle.docket.specs.Terms.{isOpen, DocketTerms, answerOutcome, OfferedTerms, mostTaken}
+use Rattle.docket.specs.Terms.{isOpen, DocketTerms, Reply, OfferedTerms, mostTaken}
 use Rattle.docket.specs.Terms.Reply.{taken}
 use Rattle.docket.specs.Passing.{allPassed}
-use Rattle.docket.specs.Offers.{isEmpty, admits, isOneSample, answerBy, answerOf, isConfirming, takenOffer, offerBy, offerOf}
-use Rattle.docket.specs.Admissions.{admissionOf, told, confirmsBy}
-use Rattle.judge.proofs.AcceptedLaws.{Valid}
+use Rattle.docket.specs.Offers.{admits, isOneSample, answerBy, answerOf, isConfirming, takenOffer, refusedOffer, offerBy, offerOf}
+use Rattle.docket.specs.Admissions.{Empty, Waiting, admissionOf, told}
+use Rattle.record.proofs.AcceptedLaws.{Valid}
 use Rattle.judge.proofs.Laws.{judged-valid, valid-judged, compared-valid, valid-compared}
 use Rattle.refusal.proofs.Outcomes.{never}
 use Rattle.docket.proofs.TakenLaws.{taken-fewer, taken-held}
@@ -41,49 +38,69 @@ module _ (held s : List ℕ) (valid : Valid s) where
   told-by (given b) e t = compared-valid held s b e .2
   told-by (refused n) e t = absurd (true≢false (sym t))
 
-  confirms-by : (empty : Bool) → (empty || isGiven (judgementOf held)) ≡ true
-      → (not empty && told (agreementOf held s)) ≡ (not empty && agrees held s)
-  confirms-by true t = refl
-  confirms-by false t = told-by (agreementOf held s) refl (held-tested ∙ t)
-
 module _ (d : DocketTerms) (s : List ℕ) where
-  -- the admission, by the tests of the code
-  module _ (compared : Outcome Bool) {opened told : Bool} (o : opened ≡ isOpen (d .state)) (t : told ≡ isGiven compared) where
+  -- whatever the docket, a record that its own tests refuse is answered by them
+  pub own-refused : {n : ℕ} → judgementOf s ≡ refused n → refusedOffer d n ≡ offerOf d s
+  unfolding offerOf offerBy answerOf answerBy
+  own-refused e = rw e
+
+  module _ {v : Four} (judged : judgementOf s ≡ given v) where
+    pub closed-offer : isOpen (d .state) ≡ false → refusedOffer d (numberOf refusal.DocketClosed) ≡ offerOf d s
+    unfolding offerOf offerBy answerOf answerBy admits
+    closed-offer closed = rw (judged, closed)
+
+    module _ (empty : Empty d) where
+      first-taken : answerOf d s ≡ given taken
+      unfolding answerOf answerBy admits isOneSample
+      first-taken = rw (judged, empty .opened, empty .none)
+
+      pub first-offer : {o : OfferedTerms} → o ≡ takenOffer 0 s (allPassed v) false → o ≡ offerOf d s
+      unfolding offerOf offerBy isConfirming
+      first-offer is = is ∙ rw (first-taken, judged, empty .none)
+
+  -- the admission of a repeat, by the tests of the code
+  module _ (compared : Outcome Bool) {told : Bool} (t : told ≡ isGiven compared) where
     abbrev admitted : Bool
-    admitted = opened && ltb (d .count) mostTaken && (isEmpty d || told)
+    admitted = ltb (d .count) mostTaken && told
 
     pub closed-refused : not admitted ≡ true → refused (numberOf refusal.DocketClosed) ≡ admissionOf d s compared
     unfolding admissionOf
-    closed-refused n = rw (← o, ← t, not-true admitted n)
+    closed-refused n = rw (← t, not-true admitted n)
 
     module _ {same : Bool} (m : same ≡ sameSampleOf (d .held) s) (n : not admitted ≡ false) where
-      pub other-refused : not (isEmpty d || same) ≡ true → refused (numberOf refusal.OtherSample) ≡ admissionOf d s compared
-      unfolding admissionOf isOneSample
-      other-refused k = rw (← o, ← t, ← m, not-false admitted n, not-true (isEmpty d || same) k)
+      pub other-refused : not same ≡ true → refused (numberOf refusal.OtherSample) ≡ admissionOf d s compared
+      unfolding admissionOf
+      other-refused k = rw (← t, ← m, not-false admitted n, not-true same k)
 
-      pub both-passed : not (isEmpty d || same) ≡ false → given taken ≡ admissionOf d s compared
-      unfolding admissionOf isOneSample
-      both-passed k = rw (← o, ← t, ← m, not-false admitted n, not-false (isEmpty d || same) k)
+      pub both-passed : not same ≡ false → given taken ≡ admissionOf d s compared
+      unfolding admissionOf
+      both-passed k = rw (← t, ← m, not-false admitted n, not-false same k)
 
-  -- the answer to a judged record that was compared with the one held, and the offer
-  module _ (a : Answer) {v : Four} {compared : Outcome Bool} (judged : judgementOf s ≡ given v) (is : compared ≡ agreementOf (d .held) s)
-      (e : answerOutcome a ≡ admissionOf d s compared) where
-    answered : answerOutcome a ≡ answerOf d s
-    unfolding admissionOf answerOf answerBy admits
-    answered = e ∙ rw (and-assoc (isOpen (d .state)) (ltb (d .count) mostTaken) _, judged, is, held-tested (d .held) s (judged-valid s v judged))
+  -- the answer to a judged repeat that was compared with the record held, and the offer
+  module _ (waiting : Waiting d) {v : Four} {compared : Outcome Bool} (judged : judgementOf s ≡ given v) (is : compared ≡ agreementOf (d .held) s)
+      {a : Outcome Reply} (e : a ≡ admissionOf d s compared) where
+    answered : a ≡ answerOf d s
+    unfolding admissionOf answerOf answerBy admits isOneSample
+    answered = e ∙ rw (judged, waiting .opened, waiting .some, is, held-tested (d .held) s (judged-valid s v judged))
 
-    pub refused-offer : {why : Refusal} → a ≡ answer.Refused why → record { docket = d; answer = answerOutcome a } ≡ offerOf d s
+    pub repeat-refused : {n : ℕ} → a ≡ refused n → refusedOffer d n ≡ offerOf d s
     unfolding offerOf offerBy
-    refused-offer t = rw (← answered, t)
+    repeat-refused t = rw (← answered, t)
 
-    module _ (t : a ≡ answer.Taken) where
+    module _ (t : a ≡ given taken) where
       is-taken : answerOf d s ≡ given taken
-      is-taken = sym answered ∙ ap answerOutcome t
+      is-taken = sym answered ∙ t
 
-      pub admitted-fewer : d .count < mostTaken
-      admitted-fewer = taken-fewer d s is-taken
+      pub repeat-fewer : d .count < mostTaken
+      repeat-fewer = taken-fewer d s is-taken
 
-      pub taken-offer : {o : OfferedTerms} → o ≡ takenOffer (d .count) s (allPassed v) (confirmsBy (d .count) compared) → o ≡ offerOf d s
-      unfolding offerOf offerBy isConfirming
-      taken-offer o =
-          o ∙ rw (is-taken, judged, is, confirms-by (d .held) s (judged-valid s v judged) (isEmpty d) (taken-held d s is-taken))
+      confirms : told compared ≡ isConfirming d s
+      unfolding isConfirming
+      confirms =
+          let valid = judged-valid s v judged in
+          let given-held : isGiven (judgementOf (d .held)) ≡ true = rw (waiting .some) at (taken-held d s is-taken) in
+          rw (waiting .some, is) (told-by (d .held) s valid _ refl (held-tested (d .held) s valid ∙ given-held))
+
+      pub repeat-taken : {o : OfferedTerms} {b : Bool} → b ≡ told compared → o ≡ takenOffer (d .count) s (allPassed v) b → o ≡ offerOf d s
+      unfolding offerOf offerBy
+      repeat-taken b o = o ∙ rw (is-taken, judged, b, confirms)

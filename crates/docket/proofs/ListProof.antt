@@ -7,9 +7,9 @@ use native.Mathlib.Omega.{arith}
 use lib.Dec.{ltb, leb, eqb}
 use lib.ListN.{length}
 use borrow.Author.Tests.{ne-eqb, lt-ltb, lt-leb, le-leb, eqb-true, eqb-false}
-use Rattle.refusal.specs.Outcome.{Outcome}
+use Rattle.refusal.specs.Outcome.{Outcome, isGiven}
 use Rattle.refusal.specs.Outcome.Outcome.{given, refused}
-use Rattle.judge.specs.Record.{isGiven, sameSampleOf}
+use Rattle.record.specs.Record.{sameSampleOf}
 use Rattle.judge.specs.Judgements.{Four, judgementOf}
 use Rattle.judge.specs.Agreement.{agrees}
 use Rattle.docket.specs.Terms.{isOpen, DocketTerms, Reply, mostTaken}

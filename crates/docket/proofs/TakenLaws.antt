@@ -5,9 +5,8 @@ use mathlib.Core.List.{List, [], _∷_}
 use Prim.Native.Nat.{ℕ, _<_}
 use lib.Dec.{ltb}
 use borrow.Author.Tests.{ltb-true}
-use Rattle.refusal.specs.Outcome.{Outcome}
+use Rattle.refusal.specs.Outcome.{Outcome, isGiven}
 use Rattle.refusal.specs.Outcome.Outcome.{given, refused}
-use Rattle.judge.specs.Record.{isGiven}
 use Rattle.judge.specs.Judgements.{Four, judgementOf}
 use Rattle.docket.specs.Terms.{isOpen, DocketTerms, mostTaken}
 use Rattle.docket.specs.Terms.Reply.{taken}

@@ -2,7 +2,7 @@
 use mathlib.Core.List.{List, [], _∷_}
 use Prim.Native.Nat.{ℕ, zero, suc, _+_, min}
 use lib.ListN.{length, take, drop}
-use Rattle.judge.specs.Record.{recordWords}
+use Rattle.record.specs.Record.{recordWords}
 
 -- the first n of them: as long as words are left, the first 25 are a record and the others come after it. Where fewer than 25 are
 -- left, they are offered as they are: no record, and refused

@@ -3,11 +3,11 @@ use mathlib.Core.Bool.{Bool, cond, not, _&&_, _||_}
 use mathlib.Core.List.{List}
 use Prim.Native.Nat.{ℕ, _+_}
 use lib.Dec.{ltb, eqb}
-use Rattle.refusal.specs.Outcome.{Outcome, demand}
+use Rattle.refusal.specs.Outcome.{Outcome, demand, isGiven}
 use Rattle.refusal.specs.Outcome.Outcome.{given, refused}
 use Rattle.refusal.specs.Numbers.{numberOf}
 use Rattle.refusal.specs.declared.Refusal.the-variants as refusal
-use Rattle.judge.specs.Record.{isGiven, sameSampleOf}
+use Rattle.record.specs.Record.{sameSampleOf}
 use Rattle.judge.specs.Judgements.{Four, judgementOf}
 use Rattle.judge.specs.Agreement.{agrees}
 use Rattle.docket.specs.Terms.{Standing, isOpen, DocketTerms, Reply, OfferedTerms, mostTaken}

@@ -9,7 +9,7 @@ use Rattle.refusal.specs.Outcome.{Outcome, demand}
 use Rattle.refusal.specs.Outcome.Outcome.{given, refused}
 use Rattle.refusal.specs.Numbers.{numberOf}
 use Rattle.refusal.specs.declared.Refusal.the-variants as refusal
-use Rattle.judge.specs.Record.{sameSampleOf}
+use Rattle.record.specs.Record.{sameSampleOf}
 use Rattle.judge.specs.Judgements.{Four, judgementOf}
 use Rattle.judge.specs.Agreement.{agrees}
 use Rattle.docket.specs.Terms.{Standing, isOpen, Reply, mostTaken}

@@ -1,5 +1,5 @@
-// Refusals 11 and 12 (document 01, 'Refusals that come from the state'): what a docket answers to a record that its own tests
-// accept. The tests are cheap and change nothing, so they are joined by `&` and `|`, which leave one way through.
+// Refusals 11 and 12 (document 01, 'Refusals that come from the state'): what a docket that waits for a repeat answers to a
+// record that its own tests accept.
 use crate::Answer;
 use crate::Docket;
 use crate::MOST;
@@ -7,7 +7,7 @@ use crate::State;
 use judge::Agreement;
 use refusal::Refusal;
 ghost use mathlib.Core.Path.{_≡_};
-ghost use Rattle.judge.specs.Record.{isGiven};
+ghost use Rattle.refusal.specs.Outcome.{isGiven};
 ghost use Rattle.judge.specs.Agreement.{agreementOutcome};
 ghost use Rattle.docket.specs.Terms.{standingOf, isOpen, docketOf, answerOutcome};
 ghost use Rattle.docket.specs.Admissions.{admissionOf};
@@ -17,11 +17,10 @@ ghost use Rattle.docket.specs.Admissions.{admissionOf};
 pub fn answer(docket: Docket, words: &[u32], agreement: Agreement) -> Answer
     ensures { λ r. ⌜ answerOutcome r ≡ admissionOf (docketOf docket) (now (words .entry)) (agreementOutcome agreement) ⌝ }
 {
-    let empty = docket.count == 0;
-    if !(is_open(docket.state) & (docket.count < MOST) & (empty | is_told(agreement))) {
+    if !((docket.count < MOST) & is_told(agreement)) {
         return Answer::Refused(Refusal::DocketClosed);
     }
-    if !(empty | judge::same_sample(&docket.held, words)) {
+    if !record::same_sample(&docket.held, words) {
         return Answer::Refused(Refusal::OtherSample);
     }
     Answer::Taken

@@ -5,33 +5,39 @@ use judge::Agreement;
 use judge::Verdict;
 use judge::Verdicts;
 ghost use mathlib.Core.Path.{_≡_};
-ghost use Prim.Native.Nat.{_+_, _<_};
 ghost use Rattle.judge.specs.Verdicts.{verdictNumber};
 ghost use Rattle.judge.specs.Judgements.{numbersOf};
 ghost use Rattle.judge.specs.Agreement.{agreementOutcome};
-ghost use Rattle.docket.specs.Terms.{standingOf, mostTaken};
+ghost use Rattle.docket.specs.Terms.{standingOf};
 ghost use Rattle.docket.specs.Passing.{isPassed, allPassed};
 ghost use Rattle.docket.specs.Offers.{standingAfter};
-ghost use Rattle.docket.specs.Admissions.{confirmsBy};
+ghost use Rattle.docket.specs.Admissions.{told};
 
-// With a record more than so many, that passed or not, and was compared with the one before it.
-pub fn state_after(earlier: u32, passed: bool, agreement: Agreement) -> State
-    requires { ⌜ earlier < mostTaken ⌝ }
-    ensures { λ r. ⌜ standingOf r ≡ standingAfter (earlier + 1) passed (confirmsBy earlier (agreementOutcome agreement)) ⌝ }
+// With its count-th record, that passed or not, and agrees with the one before it or not.
+pub fn state_after(count: u32, passed: bool, confirms: bool) -> State
+    ensures { λ r. ⌜ standingOf r ≡ standingAfter count passed confirms ⌝ }
 {
     if passed {
         return State::Consistent;
     }
-    if earlier == 0 {
-        return State::Open;
-    }
-    if let Agreement::Agree = agreement {
+    if confirms {
         return State::Confirmed;
     }
-    if earlier + 1 == MOST {
+    if count == MOST {
         return State::Unsettled;
     }
     State::Open
+}
+
+// Whether a repeat agrees with the record held.
+pub fn is_agreement(agreement: Agreement) -> bool
+    ensures { λ r. ⌜ r ≡ told (agreementOutcome agreement) ⌝ }
+{
+    match agreement {
+        Agreement::Agree => true,
+        Agreement::Differ => false,
+        Agreement::Refused(_) => false,
+    }
 }
 
 // Whether every check is 0 or 1.

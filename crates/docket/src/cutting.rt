@@ -1,10 +1,10 @@
 // How a run of records lent as one slice is cut into offers.
 use crate::Docket;
-use judge::WORDS;
+use record::WORDS;
 ghost use mathlib.Core.Path.{_≡_};
 ghost use Prim.Native.Nat.{_<_};
 ghost use lib.ListN.{length, take, drop};
-ghost use Rattle.judge.specs.Record.{recordWords};
+ghost use Rattle.record.specs.Record.{recordWords};
 ghost use Rattle.docket.specs.Terms.{docketOf};
 ghost use Rattle.docket.specs.Offers.{offerOf};
 ghost use Rattle.docket.specs.Cutting.{endOf};

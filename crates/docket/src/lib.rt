@@ -1,12 +1,11 @@
 // Follows the repeats of a sample on a docket (document 01, 'The docket'): a record is offered, and is taken or refused;
-// at most three are taken. A layer above the judge, which rests on what the judge promises and nothing else of it.
+// at most three are taken. A layer above the judge, which rests on what the judge and the record promise and nothing else.
 mod admission;
 mod closing;
 mod cutting;
 mod offering;
 mod taking;
 
-use judge::Judgement;
 use refusal::Refusal;
 ghost use mathlib.Core.Path.{_≡_};
 ghost use Rattle.docket.specs.Terms.{docketOf, offeredOf};
@@ -30,7 +29,7 @@ pub enum State {
 pub struct Docket {
     pub state: State,
     pub count: u32,
-    pub held: [u32; judge::WORDS],
+    pub held: [u32; record::WORDS],
 }
 
 // What is answered to an offer.
@@ -54,7 +53,7 @@ pub fn fresh() -> Docket
     Docket {
         state: State::Open,
         count: 0,
-        held: [0u32; judge::WORDS],
+        held: [0u32; record::WORDS],
     }
 }
 
@@ -66,16 +65,10 @@ pub fn offer(docket: Docket, words: &[u32]) -> Offered
     if !admission::is_open(state) {
         return offering::offer_closed(docket, words);
     }
-    let repeat = judge::judge_repeat(&docket.held, words);
-    let agreement = repeat.agreement;
-    let judgement = repeat.judgement;
-    match judgement {
-        Judgement::Judged(verdicts) => offering::offer_judged(docket, words, verdicts, agreement),
-        Judgement::Refused(why) => Offered {
-            docket: docket,
-            answer: Answer::Refused(why),
-        },
+    if docket.count == 0 {
+        return offering::offer_first(docket, words);
     }
+    offering::offer_repeat(docket, words)
 }
 
 // Follows a docket through a run of offers, lent as one slice: records one after the other, each offered to the docket that
@@ -87,7 +80,7 @@ pub fn follow(docket: Docket, words: &[u32]) -> Docket
     let mut at: usize = 0;
     while at < words.len() {
         followed = cutting::offer_at(followed, words, at);
-        at += judge::WORDS;
+        at += record::WORDS;
     }
     followed
 }

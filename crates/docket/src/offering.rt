@@ -1,53 +1,83 @@
-// What is answered to an offer, once it is known whether the docket is open and whether the record's own tests accept it.
+// What is answered to an offer: by a docket that is not open, by one that took nothing, and by one that waits for a repeat.
 use crate::Answer;
 use crate::Docket;
 use crate::Offered;
 use crate::admission;
+use crate::closing;
 use crate::taking;
 use judge::Agreement;
 use judge::Judgement;
 use judge::Verdicts;
+use record::Tested;
 use refusal::Refusal;
 ghost use mathlib.Core.Path.{_≡_};
-ghost use mathlib.Core.Bool.{false};
+ghost use mathlib.Core.Bool.{true, false};
 ghost use Rattle.refusal.specs.Outcome.Outcome.{given};
+ghost use Rattle.refusal.specs.Numbers.{numberOf};
 ghost use Rattle.judge.specs.Judgements.{numbersOf, judgementOf};
 ghost use Rattle.judge.specs.Agreement.{agreementOutcome, agreementOf};
 ghost use Rattle.docket.specs.Terms.{standingOf, isOpen, docketOf, offeredOf};
-ghost use Rattle.docket.specs.Offers.{offerOf};
+ghost use Rattle.docket.specs.Offers.{refusedOffer, offerOf};
+ghost use Rattle.docket.specs.Admissions.{Empty, Waiting};
 
-// It is refused 11 or 12, and then nothing else changes, or taken.
-pub fn offer_judged(
-    docket: Docket,
-    words: &[u32],
-    verdicts: Verdicts,
-    agreement: Agreement,
-) -> Offered
-    requires judged { ⌜ judgementOf (now words) ≡ given (numbersOf verdicts) ⌝ }
-    requires compared { ⌜ agreementOutcome agreement ≡ agreementOf (docket .held) (now words) ⌝ }
-    ensures { λ r. ⌜ offeredOf r ≡ offerOf (docketOf docket) (now (words .entry)) ⌝ }
-{
-    let answer = admission::answer(docket, words, agreement);
-    let Answer::Taken = answer else {
-        return Offered {
-            docket: docket,
-            answer: answer,
-        };
-    };
-    taking::take(docket.count, words, verdicts, agreement)
-}
-
-// To a docket that is not open: nothing is compared, only the record's own tests go before refusal 11.
+// Closed: nothing is judged or compared, only the record's own tests go before refusal 11.
 pub fn offer_closed(docket: Docket, words: &[u32]) -> Offered
     requires { ⌜ isOpen (standingOf (docket .state)) ≡ false ⌝ }
     ensures { λ r. ⌜ offeredOf r ≡ offerOf (docketOf docket) (now (words .entry)) ⌝ }
 {
-    let answer = match judge::judge(words) {
-        Judgement::Judged(_) => Answer::Refused(Refusal::DocketClosed),
-        Judgement::Refused(why) => Answer::Refused(why),
-    };
+    let own = record::test(words);
+    let tested = own.tested;
+    match tested {
+        Tested::Accepted(_) => refused(docket, Refusal::DocketClosed),
+        Tested::Refused(why) => refused(docket, why),
+    }
+}
+
+// Empty: nothing is held that the record could be compared with.
+pub fn offer_first(docket: Docket, words: &[u32]) -> Offered
+    requires { ⌜ Empty (docketOf docket) ⌝ }
+    ensures { λ r. ⌜ offeredOf r ≡ offerOf (docketOf docket) (now (words .entry)) ⌝ }
+{
+    match judge::judge(words) {
+        Judgement::Judged(verdicts) => taking::take(0, words, verdicts, false),
+        Judgement::Refused(why) => refused(docket, why),
+    }
+}
+
+// A repeat is judged and compared with the record held at once, so that each is tested once.
+pub fn offer_repeat(docket: Docket, words: &[u32]) -> Offered
+    requires { ⌜ Waiting (docketOf docket) ⌝ }
+    ensures { λ r. ⌜ offeredOf r ≡ offerOf (docketOf docket) (now (words .entry)) ⌝ }
+{
+    let repeat = judge::judge_repeat(&docket.held, words);
+    let agreement = repeat.agreement;
+    let judgement = repeat.judgement;
+    match judgement {
+        Judgement::Judged(verdicts) => offer_judged(docket, words, verdicts, agreement),
+        Judgement::Refused(why) => refused(docket, why),
+    }
+}
+
+// A repeat that its own tests accept: it is refused 11 or 12, or taken.
+fn offer_judged(docket: Docket, words: &[u32], verdicts: Verdicts, agreement: Agreement) -> Offered
+    requires { ⌜ Waiting (docketOf docket) ⌝ }
+    requires judged { ⌜ judgementOf (now words) ≡ given (numbersOf verdicts) ⌝ }
+    requires compared { ⌜ agreementOutcome agreement ≡ agreementOf (docket .held) (now words) ⌝ }
+    ensures { λ r. ⌜ offeredOf r ≡ offerOf (docketOf docket) (now (words .entry)) ⌝ }
+{
+    let confirms = closing::is_agreement(agreement);
+    match admission::answer(docket, words, agreement) {
+        Answer::Taken => taking::take(docket.count, words, verdicts, confirms),
+        Answer::Refused(why) => refused(docket, why),
+    }
+}
+
+// The docket comes back as it was.
+fn refused(docket: Docket, why: Refusal) -> Offered
+    ensures { λ r. ⌜ offeredOf r ≡ refusedOffer (docketOf docket) (numberOf why) ⌝ }
+{
     Offered {
         docket: docket,
-        answer: answer,
+        answer: Answer::Refused(why),
     }
 }

@@ -3,28 +3,25 @@ use crate::Answer;
 use crate::Docket;
 use crate::Offered;
 use crate::closing;
-use judge::Agreement;
 use judge::Verdicts;
-use judge::WORDS;
+use record::WORDS;
 ghost use mathlib.Core.Path.{_≡_};
 ghost use Prim.Native.Nat.{_<_};
 ghost use lib.ListN.{length};
-ghost use Rattle.judge.specs.Record.{recordWords};
+ghost use Rattle.record.specs.Record.{recordWords};
 ghost use Rattle.judge.specs.Judgements.{numbersOf};
 ghost use Rattle.docket.specs.Terms.{mostTaken, offeredOf};
 ghost use Rattle.docket.specs.Passing.{allPassed};
-ghost use Rattle.judge.specs.Agreement.{agreementOutcome};
 ghost use Rattle.docket.specs.Offers.{takenOffer};
-ghost use Rattle.docket.specs.Admissions.{confirmsBy};
 
-// A record with these verdicts, compared with the one before it, after so many earlier ones.
-pub fn take(earlier: u32, words: &[u32], verdicts: Verdicts, agreement: Agreement) -> Offered
+// A record with these verdicts, that agrees with the one before it or not, after so many earlier ones.
+pub fn take(earlier: u32, words: &[u32], verdicts: Verdicts, confirms: bool) -> Offered
     requires { ⌜ (length (now words) ≡ recordWords) × (earlier < mostTaken) ⌝ }
-    ensures { λ r. ⌜ offeredOf r ≡ takenOffer earlier (now (words .entry)) (allPassed (numbersOf verdicts)) (confirmsBy earlier (agreementOutcome agreement)) ⌝ }
+    ensures { λ r. ⌜ offeredOf r ≡ takenOffer earlier (now (words .entry)) (allPassed (numbersOf verdicts)) confirms ⌝ }
 {
     let count = earlier + 1;
     let passed = closing::all_passed(verdicts);
-    let state = closing::state_after(earlier, passed, agreement);
+    let state = closing::state_after(count, passed, confirms);
     let held = copied(words);
     Offered {
         docket: Docket {

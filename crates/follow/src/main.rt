@@ -43,7 +43,7 @@ fn print_state(state: State) {
 
 // Reads a record, offers it and prints its line.
 fn offer_next(before: Docket) -> Turn {
-    let mut words = [0u32; judge::WORDS];
+    let mut words = [0u32; record::WORDS];
     let got = input::read(&mut words);
     if got.bytes == 0 {
         return Turn {
@@ -62,7 +62,7 @@ fn offer_next(before: Docket) -> Turn {
     io::write_all(STDOUT_FILENO, b"\n");
     Turn {
         docket: after,
-        more: count == judge::WORDS,
+        more: count == record::WORDS,
     }
 }
 

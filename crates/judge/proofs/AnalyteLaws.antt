@@ -34,10 +34,10 @@ module _ (s : List ℕ) (r : TestedRecord) (w : Holds s r) where
   h = r .analytes
 
   pub held-there : (i : ℕ) → i < readings → thereAt h i ≡ present (readingAt s i)
-  held-there i l = ap present (w .readings .each i l .reading)
+  held-there i l = ap (λ (a : Analyte). present (a .reading)) (w .readings i l)
 
   pub held-amount : (i : ℕ) → i < readings → amountAt h i ≡ massAt s i
-  held-amount i l = w .readings .each i l .mass
+  held-amount i l = ap (λ (a : Analyte). a .mass .0) (w .readings i l)
 
   pub held-small : Small h
   held-small = record { most = λ i l. rw (held-amount i l) (mass-most (readingAt s i)) }
@@ -78,5 +78,5 @@ unfolding agrees readingAgrees
 held-agrees s t a b v w =
     let ions-same = all-same (ionsAgreeAt (a .analytes) (b .analytes)) (ionAgrees s t) ions
     (λ i l. let r : i < readings = omega arith in
-    rw (v .readings .each i r .reading, v .readings .each i r .mass, w .readings .each i r .reading, w .readings .each i r .mass)) in
+    rw (v .readings i r, w .readings i r)) in
     rw (v .ph, w .ph, v .conductivity, w .conductivity, v .alkalinity, w .alkalinity, ions-same)

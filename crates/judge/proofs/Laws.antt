@@ -1,19 +1,25 @@
 -- For the crates above: what a judgement and an agreement tell of the records they were given for.
-use mathlib.Core.Path.{_≡_, _∙_}
+use mathlib.Core.Path.{_≡_, sym, _∙_}
 use mathlib.Core.Bool.{Bool}
 use mathlib.Core.List.{List}
 use Prim.Native.Nat.{ℕ, _≤_}
 use lib.Dec.{lit≤}
 use lib.ListN.{length}
-use Rattle.refusal.specs.Outcome.Outcome.{given}
+use Rattle.refusal.specs.Outcome.Outcome.{given, refused}
+use Rattle.refusal.specs.Numbers.{numberOf}
+use Rattle.refusal.specs.declared.Refusal.{Refusal}
+use Rattle.record.specs.declared.Tested.the-variants as tested
+use Rattle.record.specs.declared.TestedRecord.{TestedRecord}
 use Rattle.judge.specs.declared.Verdict.{Verdict}
 use Rattle.judge.specs.declared.Verdict.the-variants as verdict
 use Rattle.record.specs.Record.{recordWords, accepted}
+use Rattle.record.specs.Tested.{OwnTests}
 use Rattle.judge.specs.Verdicts.{verdictNumber}
 use Rattle.judge.specs.Judgements.{Four, verdictsOf, judgementOf}
 use Rattle.judge.specs.Agreement.{agreementOf, agrees}
 use Rattle.judge.specs.Truth.{Truth}
 use Rattle.record.proofs.AcceptedLaws.{Valid, accepted-given, valid-accepted}
+use Rattle.record.proofs.TestedLaws.{tested-refused}
 use Rattle.judge.proofs.MostLaws.{verdicts-most}
 use Rattle.judge.proofs.JudgeLaws as judging
 
@@ -43,6 +49,11 @@ module _ (s : List ℕ) (v : Four) (judged : judgementOf s ≡ given v) where
 -- an accepted record is judged
 pub valid-judged : (s : List ℕ) → Valid s → judgementOf s ≡ given (verdictsOf s)
 valid-judged s valid = judging.judged s valid
+
+-- and any other is refused by its own tests
+pub refused-judged : (s : List ℕ) {r : TestedRecord} {why : Refusal} → OwnTests s r → r .tested ≡ tested.Refused why → judgementOf s ≡ refused (numberOf why)
+unfolding judgementOf
+refused-judged s t e = sym (tested-refused t e (given (verdictsOf s)))
 
 -- an agreement is told of accepted records only
 pub compared-valid : (s t : List ℕ) (b : Bool) → agreementOf s t ≡ given b → Valid s × Valid t × (b ≡ agrees s t)

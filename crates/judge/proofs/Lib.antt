@@ -1,5 +1,4 @@
--- The laws behind this crate's contracts. Other crates cite `AcceptedLaws` and `Laws`, and nothing else of it.
-pub mod AcceptedLaws
+-- The laws behind this crate's contracts. Other crates cite `Laws`, and nothing else of it.
 mod Columns
 mod SumLaws
 mod IonLaws

@@ -1,4 +1,3 @@
-pub mod Record
 pub mod Ions
 pub mod Choices
 pub mod Verdicts

@@ -13,16 +13,10 @@ mod window;
 use refusal::Refusal;
 ghost use mathlib.Core.Path.{_≡_};
 ghost use Rattle.refusal.specs.Outcome.Outcome.{given};
-ghost use Rattle.record.specs.Record.{sameSampleOf};
 ghost use Rattle.judge.specs.Verdicts.{verdictNumber};
 ghost use Rattle.judge.specs.Judgements.{Four, judgementOutcome, judgementOf};
 ghost use Rattle.judge.specs.Truth.{Truth};
 ghost use Rattle.judge.specs.Agreement.{agreementOutcome, agreementOf};
-
-// The words of a record, and where the sample number stands, for the crates above.
-pub const WORDS: usize = record::WORDS;
-
-pub const NUMBER: usize = record::NUMBER;
 
 // A charge in u, which is 10^-9 µeq/L, held apart from mass and conductivity by its type.
 pub struct Charge(pub u64);
@@ -112,20 +106,4 @@ pub fn judge_repeat(earlier: &[u32], words: &[u32]) -> Repeat
         judgement,
         agreement,
     }
-}
-
-// Whether two records are of one sample: what refusal 12 compares. Slices that are no records are of no sample.
-pub fn same_sample(first: &[u32], second: &[u32]) -> bool
-    ensures { λ r. ⌜ r ≡ sameSampleOf (now (first .entry)) (now (second .entry)) ⌝ }
-{
-    if first.len() != WORDS {
-        return false;
-    }
-    if second.len() != WORDS {
-        return false;
-    }
-    if first[NUMBER] != second[NUMBER] {
-        return false;
-    }
-    first[record::KIND] == second[record::KIND]
 }

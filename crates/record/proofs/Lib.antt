@@ -4,4 +4,3 @@ mod BetweenLaws
 pub mod AcceptedLaws
 pub mod TestedLaws
 pub mod MassLaws
-mod StoreLaws

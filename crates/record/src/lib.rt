@@ -8,8 +8,8 @@ use reading::Mass;
 use reading::Reading;
 use refusal::Refusal;
 ghost use mathlib.Core.Path.{_≡_};
-ghost use Rattle.record.specs.Record.{present, isElement, hasReading};
-ghost use Rattle.record.specs.Tested.{OwnTests};
+ghost use Rattle.record.specs.Record.{sameSampleOf, present, isElement, hasReading};
+ghost use Rattle.record.specs.Tested.{fieldsOf, fieldsOutcome};
 
 // The words of a record, and where each field stands.
 pub const WORDS: usize = 25;
@@ -66,7 +66,7 @@ pub struct TestedRecord {
 
 // Tests 1 to 4, and then the rest.
 pub fn test(words: &[u32]) -> TestedRecord
-    ensures { λ r. ⌜ OwnTests (now (words .entry)) r ⌝ }
+    ensures { λ r. ⌜ fieldsOutcome r ≡ fieldsOf (now (words .entry)) ⌝ }
 {
     if words.len() != WORDS {
         return tests::refused(Refusal::RecordLength);
@@ -102,4 +102,20 @@ pub fn has_reading(words: &[u32], element: u32) -> bool
     }
     let r = readings::reading_at(words, element as usize - 1);
     readings::analyte(r).is_present()
+}
+
+// Whether two records are of one sample: what refusal 12 compares. Slices that are no records are of no sample.
+pub fn same_sample(first: &[u32], second: &[u32]) -> bool
+    ensures { λ r. ⌜ r ≡ sameSampleOf (now (first .entry)) (now (second .entry)) ⌝ }
+{
+    if first.len() != WORDS {
+        return false;
+    }
+    if second.len() != WORDS {
+        return false;
+    }
+    if first[NUMBER] != second[NUMBER] {
+        return false;
+    }
+    first[KIND] == second[KIND]
 }

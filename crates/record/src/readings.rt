@@ -11,7 +11,7 @@ ghost use Prim.Native.Nat.{_<_};
 ghost use lib.ListN.{length};
 ghost use Rattle.reading.specs.Answers.{readingOutcome};
 ghost use Rattle.record.specs.Record.{recordWords, readings, readAt, readingAt};
-ghost use Rattle.record.specs.Tested.{IsAnalyte, ReadTo};
+ghost use Rattle.record.specs.Tested.{analyteOf, ReadTo};
 
 // Whether all ten are readings, and if so each with its amount.
 pub struct ReadAll {
@@ -53,7 +53,7 @@ pub fn none() -> [Analyte; READINGS]
 }
 
 pub fn analyte(r: Reading) -> Analyte
-    ensures { λ a. ⌜ IsAnalyte r a ⌝ }
+    ensures { λ a. ⌜ a ≡ analyteOf r ⌝ }
 {
     let mass = match r.amount() {
         AmountResult::Missing => Mass(0),

@@ -14,13 +14,13 @@ ghost use Rattle.refusal.specs.Outcome.Outcome.{given, refused};
 ghost use Rattle.refusal.specs.Numbers.{numberOf};
 ghost use Rattle.refusal.specs.Outcome.{demand};
 ghost use Rattle.refusal.specs.declared.Refusal.the-variants.{Reading};
-ghost use Rattle.record.specs.Record.{recordWords, between, areReadings, acceptedRest};
-ghost use Rattle.record.specs.Tested.{testedOutcome, HoldsReadings, Holds, TestedTo};
+ghost use Rattle.record.specs.Record.{recordWords, readings, between, areReadings, acceptedRest};
+ghost use Rattle.record.specs.Tested.{firstAnalytes, fieldsWith, fieldsOutcome};
 
 // Tests 5 to 7.
 pub fn rest(words: &[u32], floor: u64) -> TestedRecord
     requires { ⌜ length (now words) ≡ recordWords ⌝ }
-    ensures { λ r. ⌜ TestedTo (now (words .entry)) r (acceptedRest (now (words .entry)) (given floor)) ⌝ }
+    ensures { λ r. ⌜ fieldsOutcome r ≡ acceptedRest (now (words .entry)) (given (fieldsWith (now (words .entry)) floor)) ⌝ }
 {
     if !in_range(1, 100000, words[CONDUCTIVITY]) {
         return refused(Refusal::Conductivity);
@@ -34,7 +34,7 @@ pub fn rest(words: &[u32], floor: u64) -> TestedRecord
 // Test 7, and the fields of a record that passes it.
 fn hold(words: &[u32], floor: u64) -> TestedRecord
     requires { ⌜ length (now words) ≡ recordWords ⌝ }
-    ensures { λ r. ⌜ TestedTo (now (words .entry)) r (demand (areReadings (now (words .entry))) (numberOf Reading) (given floor)) ⌝ }
+    ensures { λ r. ⌜ fieldsOutcome r ≡ demand (areReadings (now (words .entry))) (numberOf Reading) (given (fieldsWith (now (words .entry)) floor)) ⌝ }
 {
     let read = readings::read_all(words);
     if !read.valid {
@@ -44,8 +44,8 @@ fn hold(words: &[u32], floor: u64) -> TestedRecord
 }
 
 fn accepted(words: &[u32], floor: u64, read: ReadAll) -> TestedRecord
-    requires { ⌜ (length (now words) ≡ recordWords) × HoldsReadings (now words) (read .analytes) ⌝ }
-    ensures { λ r. ⌜ (testedOutcome (r .tested) ≡ given floor) × Holds (now (words .entry)) r ⌝ }
+    requires { ⌜ (length (now words) ≡ recordWords) × (read .analytes ≡ firstAnalytes (now words) readings) ⌝ }
+    ensures { λ r. ⌜ fieldsOutcome r ≡ given (fieldsWith (now (words .entry)) floor) ⌝ }
 {
     let analytes = read.analytes;
     TestedRecord {
@@ -59,7 +59,7 @@ fn accepted(words: &[u32], floor: u64, read: ReadAll) -> TestedRecord
 }
 
 pub fn refused(why: Refusal) -> TestedRecord
-    ensures { λ r. ⌜ testedOutcome (r .tested) ≡ refused (numberOf why) ⌝ }
+    ensures { λ r. ⌜ fieldsOutcome r ≡ refused (numberOf why) ⌝ }
 {
     TestedRecord {
         tested: Tested::Refused(why),

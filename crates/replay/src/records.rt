@@ -72,7 +72,7 @@ fn same_parts(count: u32, words: &[u32]) -> bool {
     if n > words.len() {
         return false;
     }
-    if judge::same_sample(&words[0..n], &words[n..]) {
+    if record::same_sample(&words[0..n], &words[n..]) {
         print::text(b"same");
     } else {
         print::text(b"other");

@@ -10,14 +10,17 @@ test-requires-2 : tie.Need-test-requires-2
 test-requires-2 c κs = search needs
 
 judge-tested-requires : tie.Need-judge-tested-requires
-judge-tested-requires c κs = search needs
+judge-tested-requires c κs = (_, record { answered = c .test2 .ensures })
 
 compare-requires : tie.Need-compare-requires
-compare-requires c κs = search needs
+compare-requires c κs = let tested = c .before in
+    ((_, record { answered = tested .before .test .ensures }), (_, record { answered = tested .test2 .ensures }))
 
 returns : tie.Need-returns
-returns c = let other = c .before .before .test2 .ensures in
-    (c .before .judge-tested .ensures _ other, c .compare .ensures _ _ (c .before .before .before .test .ensures) other)
+returns c = let tested = c .before .before in (
+  c .before .judge-tested .ensures _ (record { answered = tested .test2 .ensures }),
+  c .compare .ensures _ _ (record { answered = tested .before .test .ensures }) (record { answered = tested .test2 .ensures }),
+)
 
 pub judge-repeat-spec : {M : Type 1} → statement M
 judge-repeat-spec =

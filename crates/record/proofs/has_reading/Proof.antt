@@ -3,6 +3,7 @@ use mathlib.Core.Path.{ap, _∙_}
 use native.Mathlib.Omega.{arith}
 use borrow.Author.Tests.{eq-eqb, ne-eqb}
 use Rattle.refusal.proofs.Testing.{failed, passed}
+use Rattle.record.specs.declared.Analyte.{Analyte}
 use Rattle.record.specs.Record.{readings, hasReading, present}
 use Rattle.record.proofs.BetweenLaws.{in-between}
 use borrow.Author.Needs.{needs}
@@ -39,7 +40,7 @@ unfolding hasReading
 returns-3 c =
     let named = c .before .before .before in
     rw (eq-eqb _ _ (named .before .before .if1 .left), passed (named .before .is-element .ensures) (named .if2 .left))
-    (c .is-present .ensures ∙ ap present (c .before .analyte .ensures .reading ∙ c .before .before .reading-at .ensures))
+    (c .is-present .ensures ∙ ap (λ (a : Analyte). present (a .reading)) (c .before .analyte .ensures) ∙ ap present (c .before .before .reading-at .ensures))
 
 pub has-reading-spec : {M : Type 1} → statement M
 has-reading-spec =

@@ -1,12 +1,13 @@
 -- Each return is what the definition picks by the tests that led there; the answer of the floor is the test of the pH.
 use mathlib.Core.Path.{sym, ap, _∙_}
 use borrow.Author.Tests.{eq-eqb, ne-eqb}
+use Rattle.refusal.specs.Outcome.Outcome.{refused}
 use Rattle.hydrogen.specs.Answers.{floorOutcome}
 use Rattle.hydrogen.specs.Floors.{leastPh, greatestPh}
 use Rattle.hydrogen.proofs.Laws.{floor-given, floor-refused}
 use Rattle.record.specs.Record.{accepted}
+use Rattle.record.specs.Tested.{fieldsOf}
 use Rattle.refusal.proofs.Testing.{failed, passed}
-use Rattle.record.proofs.TestedLaws.{refusing}
 use Rattle.record.proofs.BetweenLaws.{is-between, is-outside}
 use borrow.Author.Needs.{needs}
 use Rattle.record.proofs.test.Statement.{statement}
@@ -16,8 +17,8 @@ refused-requires : tie.Need-refused-requires
 refused-requires c κs = search needs
 
 returns : tie.Need-returns
-unfolding accepted
-returns c = refusing (c .refused .ensures) (simp (ne-eqb _ _ (c .before .if1 .taken)))
+unfolding accepted fieldsOf
+returns c = simp (ne-eqb _ _ (c .before .if1 .taken)) (c .refused .ensures)
 
 shared-slice-read-in-range : tie.Need-shared-slice-read-in-range
 shared-slice-read-in-range c = search needs
@@ -29,11 +30,11 @@ refused-requires-2 : tie.Need-refused-requires-2
 refused-requires-2 c κs = search needs
 
 returns-2 : tie.Need-returns-2
-unfolding accepted
+unfolding accepted fieldsOf
 returns-2 c =
     let number = c .before in
     let words = number .before .before .before in
-    refusing (c .refused2 .ensures) (simp (eq-eqb _ _ (words .if1 .left), failed (number .before .in-range .ensures) (number .if2 .taken)))
+    simp (eq-eqb _ _ (words .if1 .left), failed (number .before .in-range .ensures) (number .if2 .taken)) (c .refused2 .ensures)
 
 shared-slice-read-in-range-2 : tie.Need-shared-slice-read-in-range-2
 shared-slice-read-in-range-2 c = search needs
@@ -45,17 +46,17 @@ refused-requires-3 : tie.Need-refused-requires-3
 refused-requires-3 c κs = search needs
 
 returns-3 : tie.Need-returns-3
-unfolding accepted
+unfolding accepted fieldsOf
 returns-3 c =
     let kind = c .before in
     let number = kind .before .before .before in
     let words = number .before .before .before in
-    refusing (c .refused3 .ensures)
-    (simp (
+    simp (
       eq-eqb _ _ (words .if1 .left),
       passed (number .before .in-range .ensures) (number .if2 .left),
       failed (kind .before .in-range2 .ensures) (kind .if3 .taken),
-    ))
+    )
+    (c .refused3 .ensures)
 
 shared-slice-read-floor-at : tie.Need-shared-slice-read-floor-at
 shared-slice-read-floor-at c = search needs
@@ -76,7 +77,7 @@ refused-requires-4 : tie.Need-refused-requires-4
 refused-requires-4 c κs = search needs
 
 returns-4 : tie.Need-returns-4
-unfolding accepted
+unfolding accepted fieldsOf
 returns-4 c =
     let ph = c .before .before .before .before in
     let f = floor-given _ _ (sym (ph .floor-at .ensures .0) ∙ ap floorOutcome (c .before .before .floor .given .1)) in
@@ -93,21 +94,20 @@ returns-4 c =
     (c .rest .ensures)
 
 returns-5 : tie.Need-returns-5
-unfolding accepted
+unfolding accepted fieldsOf
 returns-5 c =
     let ph = c .before .before .before .before in
     let f = floor-refused _ _ (sym (ph .floor-at .ensures .0) ∙ ap floorOutcome (c .before .before .why .given .1)) in
     let kind = ph .before .before in
     let number = kind .before .before .before in
     let words = number .before .before .before in
-    refusing (c .refused4 .ensures)
-    (simp (
+    simp (
       eq-eqb _ _ (words .if1 .left),
       passed (number .before .in-range .ensures) (number .if2 .left),
       passed (kind .before .in-range2 .ensures) (kind .if3 .left),
       is-outside leastPh greatestPh _ (f .out),
-      f .number,
-    ))
+    )
+    (c .refused4 .ensures ∙ ap refused (f .number))
 
 pub test-spec : {M : Type 1} → statement M
 test-spec =

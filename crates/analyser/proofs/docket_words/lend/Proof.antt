@@ -3,7 +3,7 @@ use borrow.Author.Needs.{needs}
 use mathlib.Core.Path.{_≡_, _∙_}
 use native.Mathlib.Omega.{arith}
 use lib.ListN.{length, length-set}
-use Rattle.judge.specs.Record.{recordWords}
+use Rattle.record.specs.Record.{recordWords}
 use Rattle.docket.specs.Terms.{docketOf}
 use Rattle.analyser.specs.DocketWords.{docketWords}
 use Rattle.analyser.proofs.CallLaws.{lent-short, lent-whole}

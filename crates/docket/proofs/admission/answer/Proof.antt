@@ -4,9 +4,6 @@ use borrow.Author.Needs.{needs}
 use Rattle.docket.proofs.admission.answer.Statement.{statement}
 use Rattle.docket.proofs.admission.answer.Tie as tie
 
-is-open-requires : tie.Need-is-open-requires
-is-open-requires c κs = search needs
-
 is-told-requires : tie.Need-is-told-requires
 is-told-requires c κs = search needs
 
@@ -24,5 +21,4 @@ returns-3 c = search both-passed
 
 pub answer-spec : {M : Type 1} → statement M
 answer-spec =
-    tie.close
-    (tie.spec is-open-requires is-told-requires returns same-sample-requires returns-2 returns-3)
+    tie.close (tie.spec is-told-requires returns same-sample-requires returns-2 returns-3)

@@ -1,15 +1,17 @@
 -- The loop has read and held the readings passed; it is left at the first that is none.
-use mathlib.Core.Path.{_≡_, sym, ap, subst, _∙_}
+use mathlib.Core.Path.{_≡_, refl, sym, ap, ap₂, _∙_}
 use mathlib.Core.Bool.{true, true≢false}
-use Prim.Native.Nat.{ℕ, _-_, _≤_, _<_}
+use mathlib.Core.List.{[], _∷_, _++_}
+use Prim.Native.Nat.{_-_, _≤_}
+use native.Mathlib.Numerals.{add-one}
 use native.Mathlib.Omega.{arith}
-use lib.ListN.{length, length-set}
+use lib.ListN.{length, take, length-set}
+use lib.Seq.{take-suc-set, take-all}
 use Rattle.refusal.specs.Outcome.{isGiven}
 use Rattle.reading.specs.Answers.{readingOutcome}
 use Rattle.record.specs.Record.{readings, readAt, orMissing, readingAt, allBelow}
-use Rattle.record.specs.Tested.{IsAnalyte, analyteAt}
+use Rattle.record.specs.Tested.{analyteOf, firstAnalytes}
 use Rattle.record.proofs.AllBelow.{all-none, all-more, all-fails}
-use Rattle.record.proofs.StoreLaws.{one-more}
 use borrow.Author.Needs.{needs}
 use Rattle.record.proofs.readings.read_all.Statement.{statement}
 use Rattle.record.proofs.readings.read_all.Tie as tie
@@ -18,7 +20,7 @@ abbrev Inv-loop : tie.InvT-loop
 Inv-loop words analytes₀ i₀ analytes i = (i ≤ readings)
     × (allBelow (λ k. isGiven (readAt words k)) i ≡ true)
     × (length analytes ≡ readings)
-    × ((k : ℕ) → k < i → IsAnalyte (readingAt words k) (analyteAt analytes k))
+    × (take i analytes ≡ firstAnalytes words i)
 
 abbrev μ-loop : tie.MeasureT-loop
 μ-loop words analytes₀ i₀ analytes i = readings - i
@@ -27,7 +29,8 @@ none-requires : tie.Need-none-requires Inv-loop μ-loop
 none-requires c κs = search needs
 
 loop-holds : tie.Need-loop-holds Inv-loop μ-loop
-loop-holds c = (search needs, all-none _, c .none .ensures, λ k l. absurd (omega arith))
+unfolding firstAnalytes
+loop-holds c = (search needs, all-none _, c .none .ensures, refl)
 
 read-at-requires : tie.Need-read-at-requires Inv-loop μ-loop
 read-at-requires c κs = search needs
@@ -61,24 +64,23 @@ loop-less : tie.Need-loop-less Inv-loop μ-loop
 loop-less c = search needs
 
 loop-again : tie.Need-loop-again Inv-loop μ-loop
-unfolding readingAt
+unfolding readingAt firstAnalytes
 loop-again c = let told = c .before .before in
     let read = told .before .before in
     let l = read .before .before .loop in
-    let s = read .before .before .before .before .before .args .words .now in
     let i = l .i in
     let was = sym (read .read-at .ensures) ∙ ap readingOutcome (told .r .given .1) in
-    let new = subst (λ r. IsAnalyte r (c .analyte .result)) (sym (ap orMissing was)) (c .analyte .ensures) in (
+    let new = c .analyte .ensures ∙ ap (λ r. analyteOf (orMissing r)) (sym was) in (
       search needs,
       all-more _ i (l .inv .1) (ap isGiven was),
       length-set (l .analytes) i _ ∙ l .inv .2,
-      one-more _ (λ k. IsAnalyte (readingAt s k)) (l .analytes) i _ (omega arith) new (l .inv .3),
+      rw (add-one i) (take-suc-set (l .analytes) i _ (omega arith) ∙ ap₂ (λ before a. before ++ a ∷ []) (l .inv .3) new),
     )
 
 returns-2 : tie.Need-returns-2 Inv-loop μ-loop
 returns-2 c = let l = c .before .loop in
     let e : l .i ≡ readings = omega arith in
-    record { tested = sym (rw e at (l .inv .1)); holds = λ g. record { each = λ k h. l .inv .3 k (omega arith) } }
+    record { tested = sym (rw e at (l .inv .1)); holds = λ g. sym (take-all readings (l .analytes) (omega arith)) ∙ rw e at (l .inv .3) }
 
 pub read-all-spec : {M : Type 1} → statement M
 read-all-spec =

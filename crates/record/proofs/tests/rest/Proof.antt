@@ -1,7 +1,6 @@
 -- Each return is what the definition picks by the tests that led there.
 use Rattle.record.specs.Record.{acceptedRest}
 use Rattle.refusal.proofs.Testing.{failed, passed}
-use Rattle.record.proofs.TestedLaws.{refusing}
 use borrow.Author.Needs.{needs}
 use Rattle.record.proofs.tests.rest.Statement.{statement}
 use Rattle.record.proofs.tests.rest.Tie as tie
@@ -18,7 +17,7 @@ refused-requires c κs = search needs
 returns : tie.Need-returns
 unfolding acceptedRest
 returns c = let at = c .before in
-    refusing (c .refused .ensures) (simp (failed (at .before .in-range .ensures) (at .if1 .taken)))
+    simp (failed (at .before .in-range .ensures) (at .if1 .taken)) (c .refused .ensures)
 
 shared-slice-read-in-range-2 : tie.Need-shared-slice-read-in-range-2
 shared-slice-read-in-range-2 c = search needs
@@ -34,8 +33,8 @@ unfolding acceptedRest
 returns-2 c =
     let at = c .before in
     let conductivity = at .before .before .before in
-    refusing (c .refused2 .ensures)
-    (simp (passed (conductivity .before .in-range .ensures) (conductivity .if1 .left), failed (at .before .in-range2 .ensures) (at .if2 .taken)))
+    simp (passed (conductivity .before .in-range .ensures) (conductivity .if1 .left), failed (at .before .in-range2 .ensures) (at .if2 .taken))
+    (c .refused2 .ensures)
 
 hold-requires : tie.Need-hold-requires
 hold-requires c κs = search needs
