@@ -7,9 +7,10 @@ use native.Mathlib.Nat.{mul-le-mul}
 use native.Mathlib.Omega.{arith}
 use lib.ListN.{length, getD, take, drop}
 use borrow.Author.Tests.{leb-true}
+use Rattle.refusal.specs.Differences.{apart}
 use Rattle.refusal.proofs.Testing.{both}
 use Rattle.chart.specs.declared.setup.Setup.{Setup}
-use Rattle.chart.specs.Setups.{square, sumOf, squaresOf, setupOf, apart}
+use Rattle.chart.specs.Setups.{square, sumOf, squaresOf, setupOf}
 use Rattle.chart.specs.Rules.{every}
 use Rattle.chart.specs.Charts.{greatestValue, isValue, allValues, mostSetup}
 use Rattle.chart.specs.Room.{room, mostLimit, limitOf, InRoom, prepared, HasRoom}

@@ -4,6 +4,7 @@ use mathlib.Core.List.{List, [], _∷_}
 use Prim.Native.Nat.{ℕ, _+_, _-_, _*_, _≤_}
 use lib.Dec.{ltb}
 use lib.ListN.{length}
+use Rattle.refusal.specs.Differences.{apart}
 
 abbrev pub square : ℕ → ℕ
 square x = x * x
@@ -29,11 +30,8 @@ setupOf values = record { n = length values; S = sumOf values; Q = squaresOf val
 abbrev pub NeverNegative : Type 0
 NeverNegative = (values : List ℕ) → square (setupOf values .S) ≤ setupOf values .n * setupOf values .Q
 
--- the difference of two numbers, its sign dropped: its square is the difference's square
-abbrev pub apart : ℕ → ℕ → ℕ
-apart x y = (x - y) + (y - x)
-
--- 'a value v is beyond k deviations when (n×v − S)² × (n − 1) is greater than k² × n × (n×Q − S²)'
+-- 'a value v is beyond k deviations when (n×v − S)² × (n − 1) is greater than k² × n × (n×Q − S²)'. (The square of a difference is that of it with its sign
+-- dropped)
 unfoldable pub beyond : SetupTerms → ℕ → ℕ → Bool
 beyond f k v = ltb (square k * f .n * (f .n * f .Q - square (f .S))) (square (apart (f .n * v) (f .S)) * (f .n - 1))
 

@@ -2,7 +2,8 @@
 use crate::setup::Setup;
 ghost use mathlib.Core.Path.{_≡_};
 ghost use Prim.Native.Nat.{_≤_};
-ghost use Rattle.chart.specs.Setups.{apart, beyond};
+ghost use Rattle.refusal.specs.Differences.{apart};
+ghost use Rattle.chart.specs.Setups.{beyond};
 ghost use Rattle.chart.specs.Room.{room, termsOf, HasRoom};
 
 // Whether a value is beyond k deviations.

@@ -12,14 +12,15 @@ use Rattle.refusal.specs.Numbers.{numberOf}
 use Rattle.refusal.specs.declared.Refusal.the-variants as refusal
 use Rattle.record.specs.Record.{sameSampleOf}
 use Rattle.judge.specs.Judgements.{Four, judgementOf}
-use Rattle.judge.specs.Agreement.{agrees, agreementOf}
+use Rattle.agreement.specs.Agreement.{agrees, agreementOf}
 use Rattle.docket.specs.Terms.{isOpen, DocketTerms, Reply, OfferedTerms, mostTaken}
 use Rattle.docket.specs.Terms.Reply.{taken}
 use Rattle.docket.specs.Passing.{allPassed}
 use Rattle.docket.specs.Offers.{admits, isOneSample, answerBy, answerOf, isConfirming, takenOffer, refusedOffer, offerBy, offerOf}
 use Rattle.docket.specs.Admissions.{Empty, Waiting, admissionOf, told}
 use Rattle.record.proofs.AcceptedLaws.{Valid}
-use Rattle.judge.proofs.Laws.{judged-valid, valid-judged, compared-valid, valid-compared}
+use Rattle.agreement.proofs.Laws.{compared-valid, valid-compared}
+use Rattle.judge.proofs.Laws.{judged-valid, valid-judged}
 use Rattle.refusal.proofs.Outcomes.{never}
 use Rattle.docket.proofs.TakenLaws.{taken-fewer, taken-held}
 

@@ -11,7 +11,7 @@ use Rattle.refusal.specs.Outcome.{Outcome, isGiven}
 use Rattle.refusal.specs.Outcome.Outcome.{given, refused}
 use Rattle.record.specs.Record.{sameSampleOf}
 use Rattle.judge.specs.Judgements.{Four, judgementOf}
-use Rattle.judge.specs.Agreement.{agrees}
+use Rattle.agreement.specs.Agreement.{agrees}
 use Rattle.docket.specs.Terms.{isOpen, DocketTerms, Reply, mostTaken}
 use Rattle.docket.specs.Terms.Reply.{taken}
 use Rattle.docket.specs.Passing.{passed}

@@ -4,11 +4,11 @@ use crate::Answer;
 use crate::Docket;
 use crate::MOST;
 use crate::State;
-use judge::Agreement;
+use agreement::Agreement;
 use refusal::Refusal;
 ghost use mathlib.Core.Path.{_≡_};
 ghost use Rattle.refusal.specs.Outcome.{isGiven};
-ghost use Rattle.judge.specs.Agreement.{agreementOutcome};
+ghost use Rattle.agreement.specs.Agreement.{agreementOutcome};
 ghost use Rattle.docket.specs.Terms.{standingOf, isOpen, docketOf, answerOutcome};
 ghost use Rattle.docket.specs.Admissions.{admissionOf};
 

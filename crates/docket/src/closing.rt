@@ -1,13 +1,13 @@
 // Where a docket stands after a record was taken.
 use crate::MOST;
 use crate::State;
-use judge::Agreement;
+use agreement::Agreement;
 use judge::Verdict;
 use judge::Verdicts;
 ghost use mathlib.Core.Path.{_≡_};
 ghost use Rattle.judge.specs.Verdicts.{verdictNumber};
 ghost use Rattle.judge.specs.Judgements.{numbersOf};
-ghost use Rattle.judge.specs.Agreement.{agreementOutcome};
+ghost use Rattle.agreement.specs.Agreement.{agreementOutcome};
 ghost use Rattle.docket.specs.Terms.{standingOf};
 ghost use Rattle.docket.specs.Passing.{isPassed, allPassed};
 ghost use Rattle.docket.specs.Offers.{standingAfter};

@@ -1,34 +1,28 @@
--- What is held of a record by value gives the record's own sums, checks and agreement.
+-- What is held of a record by value gives the record's own sums and checks.
 use mathlib.Core.Path.{_≡_, refl, ap, ap₂, _∙_}
-use mathlib.Core.Bool.{Bool, _&&_}
 use mathlib.Core.List.{List}
 use Prim.Native.Nat.{ℕ, zero, suc, _+_, _*_, _<_}
 use native.Mathlib.Omega.{arith}
 use Rattle.record.specs.declared.Analyte.{Analyte}
-use Rattle.record.specs.Record.{readings, readingAt, present, allBelow, massAt}
+use Rattle.record.specs.Record.{ions, readings, readingAt, present, allBelow, massAt}
 use Rattle.record.specs.declared.TestedRecord.{TestedRecord}
 use Rattle.record.specs.Tested.{analyteAt, Holds}
+use Rattle.record.proofs.AllBelow.{all-same}
 use Rattle.record.proofs.MassLaws.{mass-most}
 use Rattle.judge.specs.declared.ions.Sums.{Sums}
-use Rattle.judge.specs.Ions.{ions, ammonium, sodium, nitrate, chloride, totalNitrogen, cationCharge, anionCharge, conducted, sum}
+use Rattle.judge.specs.Ions.{ammonium, sodium, nitrate, chloride, totalNitrogen, cationCharge, anionCharge, conducted, sum}
 use Rattle.judge.specs.Ranges.{ionsKnown}
 use Rattle.judge.specs.Sums.{IonSums}
 use Rattle.judge.specs.Ratios.{sodiumChlorideOf, nitrogenOf}
-use Rattle.judge.specs.Agreement.{readingAgrees, ionAgrees, agrees}
-use Rattle.judge.specs.Analytes.{thereAt, amountAt, Small, ratioIn, nitrogenIn, ionsAgreeAt, agreesIn}
+use Rattle.judge.specs.Analytes.{thereAt, amountAt, Small, ratioIn, nitrogenIn}
 
 -- ---- what agrees below n is the same up to n
-all-same : (f g : ℕ → Bool) (n : ℕ) → ((i : ℕ) → i < n → f i ≡ g i) → allBelow f n ≡ allBelow g n
-unfolding allBelow
-all-same f g zero h = refl
-all-same f g (suc n) h = ap₂ (λ (a b : Bool). a && b) (all-same f g n (λ i l. h i (omega arith))) (h n (omega arith))
-
 weighed-same : (w a b : ℕ → ℕ) (n : ℕ) → ((i : ℕ) → i < n → a i ≡ b i) → sum (λ i. w i * a i) n ≡ sum (λ i. w i * b i) n
 unfolding sum
 weighed-same w a b zero h = refl
 weighed-same w a b (suc n) h = ap₂ (λ (x y : ℕ). x + y) (weighed-same w a b n (λ i l. h i (omega arith))) (ap (λ (x : ℕ). w n * x) (h n (omega arith)))
 
--- ---- of one record
+-- ---- of a record
 module _ (s : List ℕ) (r : TestedRecord) (w : Holds s r) where
   abbrev h : List Analyte
   h = r .analytes
@@ -71,12 +65,3 @@ module _ (s : List ℕ) (r : TestedRecord) (w : Holds s r) where
       let e = held-amount ammonium (omega arith) in
       let f = held-there ammonium (omega arith) in
       cc
-
--- ---- of two records
-pub held-agrees : (s t : List ℕ) (a b : TestedRecord) → Holds s a → Holds t b → agreesIn a b ≡ agrees s t
-unfolding agrees readingAgrees
-held-agrees s t a b v w =
-    let ions-same = all-same (ionsAgreeAt (a .analytes) (b .analytes)) (ionAgrees s t) ions
-    (λ i l. let r : i < readings = omega arith in
-    rw (v .readings i r, w .readings i r)) in
-    rw (v .ph, w .ph, v .conductivity, w .conductivity, v .alkalinity, w .alkalinity, ions-same)

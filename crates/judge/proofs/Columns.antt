@@ -6,8 +6,8 @@ use Prim.Native.Nat.{ℕ, _≤_, _<_}
 use lib.Dec.{eqb, leb}
 use lib.ListN.{getD}
 use borrow.Author.Tests.{eqb-true, leb-true}
-use Rattle.record.specs.Record.{allBelow}
-use Rattle.judge.specs.Ions.{ions, cationFactor, anionFactor, conductance}
+use Rattle.record.specs.Record.{ions, allBelow}
+use Rattle.judge.specs.Ions.{cationFactor, anionFactor, conductance}
 use Rattle.record.proofs.AllBelow.{all-each}
 use Rattle.refusal.proofs.Testing.{both}
 

@@ -7,8 +7,8 @@ use native.Mathlib.Numerals.{add-one}
 use native.Mathlib.Omega.{arith}
 use lib.Dec.{lit≤}
 use Rattle.record.proofs.MassLaws.{mass-most}
-use Rattle.record.specs.Record.{readings, mostMass, massAt}
-use Rattle.judge.specs.Ions.{ions, cationFactor, anionFactor, conductance, cationCharge, anionCharge, conducted, sum}
+use Rattle.record.specs.Record.{ions, readings, mostMass, massAt}
+use Rattle.judge.specs.Ions.{cationFactor, anionFactor, conductance, cationCharge, anionCharge, conducted, sum}
 use Rattle.judge.proofs.SumLaws.{sum-le}
 
 -- ---- one more ion

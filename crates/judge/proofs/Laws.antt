@@ -1,6 +1,5 @@
--- For the crates above: what a judgement and an agreement tell of the records they were given for.
-use mathlib.Core.Path.{_≡_, sym, _∙_}
-use mathlib.Core.Bool.{Bool}
+-- For the crates above: what a judgement tells of the record it was given for.
+use mathlib.Core.Path.{_≡_, sym}
 use mathlib.Core.List.{List}
 use Prim.Native.Nat.{ℕ, _≤_}
 use lib.Dec.{lit≤}
@@ -12,13 +11,12 @@ use Rattle.record.specs.declared.Tested.the-variants as tested
 use Rattle.record.specs.declared.TestedRecord.{TestedRecord}
 use Rattle.judge.specs.declared.Verdict.{Verdict}
 use Rattle.judge.specs.declared.Verdict.the-variants as verdict
-use Rattle.record.specs.Record.{recordWords, accepted}
+use Rattle.record.specs.Record.{recordWords}
 use Rattle.record.specs.Tested.{OwnTests}
 use Rattle.judge.specs.Verdicts.{verdictNumber}
 use Rattle.judge.specs.Judgements.{Four, verdictsOf, judgementOf}
-use Rattle.judge.specs.Agreement.{agreementOf, agrees}
 use Rattle.judge.specs.Truth.{Truth}
-use Rattle.record.proofs.AcceptedLaws.{Valid, accepted-given, valid-accepted}
+use Rattle.record.proofs.AcceptedLaws.{Valid, accepted-given}
 use Rattle.record.proofs.TestedLaws.{tested-refused}
 use Rattle.judge.proofs.MostLaws.{verdicts-most}
 use Rattle.judge.proofs.JudgeLaws as judging
@@ -54,18 +52,6 @@ valid-judged s valid = judging.judged s valid
 pub refused-judged : (s : List ℕ) {r : TestedRecord} {why : Refusal} → OwnTests s r → r .tested ≡ tested.Refused why → judgementOf s ≡ refused (numberOf why)
 unfolding judgementOf
 refused-judged s t e = sym (tested-refused t e (given (verdictsOf s)))
-
--- an agreement is told of accepted records only
-pub compared-valid : (s t : List ℕ) (b : Bool) → agreementOf s t ≡ given b → Valid s × Valid t × (b ≡ agrees s t)
-unfolding agreementOf
-compared-valid s t b e =
-    let first = accepted-given s (accepted t (given (agrees s t))) b e in
-    let second = accepted-given t (given (agrees s t)) b (first .1) in
-    (first .0, second .0, cc (second .1))
-
-pub valid-compared : (s t : List ℕ) → Valid s → Valid t → agreementOf s t ≡ given (agrees s t)
-unfolding agreementOf
-valid-compared s t v w = valid-accepted s (accepted t (given (agrees s t))) v ∙ valid-accepted t (given (agrees s t)) w
 
 -- the greatest verdict number
 pub verdict-most : (v : Verdict) → verdictNumber v ≤ 4

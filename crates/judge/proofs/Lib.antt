@@ -6,6 +6,7 @@ mod AnalyteLaws
 mod Crossing
 mod Mixing
 mod Deciding
+mod Picking
 mod Judging
 mod RoomLaws
 mod NearCorners

@@ -1,14 +1,12 @@
--- Inside this crate: a record's readings as they are held by value, and the checks and the agreement in their terms.
-use mathlib.Core.Bool.{Bool, false, cond, not}
+-- Inside this crate: a record's readings as they are held by value, and the checks in their terms.
+use mathlib.Core.Bool.{Bool}
 use mathlib.Core.List.{List}
 use Prim.Native.Nat.{ℕ, _+_, _*_, _≤_, _<_}
 use Rattle.record.specs.declared.Analyte.{Analyte}
-use Rattle.record.specs.declared.TestedRecord.{TestedRecord}
-use Rattle.record.specs.Record.{readings, present, mostMass, allBelow}
+use Rattle.record.specs.Record.{readings, present, mostMass}
 use Rattle.record.specs.Tested.{analyteAt}
-use Rattle.judge.specs.Ions.{ions, sodium, chloride, cationCharge, anionCharge}
+use Rattle.judge.specs.Ions.{sodium, chloride, cationCharge, anionCharge}
 use Rattle.judge.specs.Ratios.{sodiumChlorideBy, nitrogenBy}
-use Rattle.judge.specs.Agreement.{phAgrees, agreesBy}
 
 -- whether reading i is there, and its amount
 abbrev pub thereAt : List Analyte → ℕ → Bool
@@ -20,7 +18,7 @@ amountAt analytes i = analyteAt analytes i .mass .0
 pub record Small (analytes : List Analyte) : Type 0 where
   pub most : (i : ℕ) → i < readings → amountAt analytes i ≤ mostMass
 
--- the two checks without hydrogen, and the agreement of two readings
+-- the two checks without hydrogen
 abbrev pub ratioIn : ℕ → Analyte → Analyte → ℕ
 ratioIn kind na cl =
     sodiumChlorideBy kind (present (cl .reading)) (cl .mass .0) (present (na .reading)) (cationCharge sodium * na .mass .0) (anionCharge chloride * cl .mass .0)
@@ -28,17 +26,3 @@ ratioIn kind na cl =
 abbrev pub nitrogenIn : Analyte → Analyte → Analyte → ℕ
 nitrogenIn total nitrate ammonium =
     nitrogenBy (present (total .reading)) (present (nitrate .reading)) (present (ammonium .reading)) (nitrate .mass .0 + ammonium .mass .0) (total .mass .0)
-
-abbrev pub analytesAgree : Analyte → Analyte → Bool
-analytesAgree a b = cond (present (a .reading)) (cond (present (b .reading)) (agreesBy (a .mass .0) (b .mass .0)) false) (not (present (b .reading)))
-
-abbrev pub ionsAgreeAt : List Analyte → List Analyte → ℕ → Bool
-ionsAgreeAt a b i = analytesAgree (analyteAt a i) (analyteAt b i)
-
-abbrev pub agreesIn : TestedRecord → TestedRecord → Bool
-agreesIn a b =
-    cond (phAgrees (a .ph) (b .ph))
-    (cond (agreesBy (a .conductivity) (b .conductivity))
-    (cond (agreesBy (a .alkalinity) (b .alkalinity)) (allBelow (ionsAgreeAt (a .analytes) (b .analytes)) ions) false)
-    false)
-    false

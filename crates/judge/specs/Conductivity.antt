@@ -11,7 +11,7 @@ use Rattle.judge.specs.Choices.{Choice}
 use Rattle.judge.specs.Verdicts.{applied}
 use Rattle.judge.specs.AtHydrogen.{Bounds}
 use Rattle.judge.specs.Corners.{Check, passesOf}
-use Rattle.judge.specs.IonBalance.{apart}
+use Rattle.refusal.specs.Differences.{apart}
 use Rattle.judge.specs.Ranges.{rangesOf, ionsKnown}
 
 -- 'M is 30 up to 10.0, 20 up to 20.0, 10 above', by tenths of µS/cm

@@ -4,6 +4,7 @@ use mathlib.Core.List.{List}
 use Prim.Native.Nat.{ℕ, _+_, _-_, _*_, _≤_}
 use lib.Dec.{leb, ltb, eqb}
 use lib.IntN.{subℕ}
+use Rattle.refusal.specs.Differences.{apart}
 use Rattle.judge.specs.declared.window.Window.{Window}
 use Rattle.record.specs.Record.{kindOf, conductivityOf, alkalinityOf, readings, readingAt, present, massAt}
 use Rattle.judge.specs.Ions.{organicCarbon, cationCharge, anionCharge, alkalinityCharge, sum}
@@ -23,10 +24,6 @@ balanceAppliesTo s = balanceApplies (kindOf s) (present (readingAt s organicCarb
 -- 'L is 20 up to a measured 20.0 µS/cm, above that 10', by tenths of µS/cm
 unfoldable pub balanceLimit : ℕ → ℕ
 balanceLimit measured = cond (leb measured 200) 20 10
-
--- the difference, 'its sign dropped'
-abbrev pub apart : ℕ → ℕ → ℕ
-apart x y = (x - y) + (y - x)
 
 -- 'Cat is H plus the next five rows, An the last four', of a choice and divisor times, with alkalinity t
 abbrev pub cations : Choice → ℕ

@@ -23,10 +23,6 @@ totalNitrogen = 8
 abbrev pub organicCarbon : ℕ
 organicCarbon = 9
 
--- 'the eight ions' are the first eight readings
-abbrev pub ions : ℕ
-ions = 8
-
 -- 'an ion of amount a has a × f × 10^4 u of charge': f of the cations, and of the anions
 unfoldable pub cationFactor : ℕ → ℕ
 cationFactor i = getD (7139 ∷ 4990 ∷ 8229 ∷ 4350 ∷ 2558 ∷ []) i 0

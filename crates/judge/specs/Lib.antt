@@ -11,6 +11,5 @@ pub mod Conductivity
 pub mod Ratios
 pub mod Judgements
 pub mod Truth
-pub mod Agreement
 pub mod Analytes
 pub mod Prepared

@@ -5,10 +5,10 @@ use mathlib.Core.List.{List}
 use Prim.Native.Nat.{ℕ, _+_, _*_, _≤_}
 use Rattle.hydrogen.specs.Floors.{floorAt}
 use Rattle.record.specs.declared.TestedRecord.{TestedRecord}
-use Rattle.record.specs.Record.{phOf, allBelow}
+use Rattle.record.specs.Record.{ions, phOf, allBelow}
 use Rattle.record.specs.Tested.{Holds}
 use Rattle.judge.specs.declared.checks.Solution.{Solution}
-use Rattle.judge.specs.Ions.{ions, organicCarbon, alkalinityCharge, hydrogenConductance}
+use Rattle.judge.specs.Ions.{organicCarbon, alkalinityCharge, hydrogenConductance}
 use Rattle.judge.specs.Choices.{gap}
 use Rattle.judge.specs.Verdicts.{applied}
 use Rattle.judge.specs.Corners.{decided}

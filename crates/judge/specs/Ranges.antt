@@ -4,8 +4,7 @@ use mathlib.Core.List.{List}
 use Prim.Native.Nat.{ℕ, _%_}
 use lib.Dec.{eqb}
 use Rattle.hydrogen.specs.Floors.{floorAt}
-use Rattle.record.specs.Record.{phOf, readingAt, present, massAt, allBelow}
-use Rattle.judge.specs.Ions.{ions}
+use Rattle.record.specs.Record.{ions, phOf, readingAt, present, massAt, allBelow}
 use Rattle.judge.specs.Choices.{Ranges}
 
 -- 'p a multiple of 100'

@@ -1,11 +1,9 @@
 // Which readings of a record are there, and sums of their amounts.
-use crate::ions;
 use reading::Mass;
 use record::Analyte;
 ghost use mathlib.Core.Path.{_≡_};
 ghost use Prim.Native.Nat.{_+_, _≤_};
-ghost use Rattle.record.specs.Record.{mostMass, allBelow};
-ghost use Rattle.judge.specs.Ions.{ions};
+ghost use Rattle.record.specs.Record.{ions, mostMass, allBelow};
 ghost use Rattle.judge.specs.Analytes.{thereAt};
 
 // A mass is added to a mass alone.
@@ -21,7 +19,7 @@ pub fn ions_known(analytes: [Analyte; record::READINGS]) -> bool
     ensures { λ r. ⌜ r ≡ allBelow (thereAt analytes) ions ⌝ }
 {
     let mut i: usize = 0;
-    while i < ions::IONS {
+    while i < record::IONS {
         let ion = analytes[i];
         if !ion.is_present() {
             return false;

@@ -4,16 +4,15 @@ use crate::Charge;
 use crate::Conductivity;
 use reading::Mass;
 use record::Analyte;
+use record::IONS;
 ghost use mathlib.Core.Path.{_≡_};
 ghost use Prim.Native.Nat.{_+_, _*_, _^_, _≤_, _<_};
-ghost use Rattle.record.specs.Record.{mostMass};
-ghost use Rattle.judge.specs.Ions.{ions, cationCharge, anionCharge, conductance, alkalinityCharge, alkalinityConductance, hydrogenConductance};
+ghost use Rattle.record.specs.Record.{ions, mostMass};
+ghost use Rattle.judge.specs.Ions.{cationCharge, anionCharge, conductance, alkalinityCharge, alkalinityConductance, hydrogenConductance};
 ghost use Rattle.judge.specs.Analytes.{amountAt, Small};
 ghost use Rattle.judge.specs.Sums.{IonSums};
 
 // NH4-N, Ca, Mg, Na, K, SO4-S, NO3-N, Cl: the places of the readings.
-pub const IONS: usize = 8;
-
 pub const AMMONIUM: usize = 0;
 
 pub const SODIUM: usize = 3;

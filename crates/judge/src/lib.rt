@@ -1,22 +1,21 @@
-// Judges the record of a water analysis (document 01, 'The four checks'), and tells whether two analyses agree
-// (document 01, 'The docket').
+// Judges the record of a water analysis (document 01, 'The four checks').
 mod amounts;
 mod balance_check;
 mod checks;
-mod comparison;
 mod conductivity_check;
 mod ions;
 mod nitrogen_check;
 mod ratio_check;
 mod window;
 
+use agreement::Agreement;
 use refusal::Refusal;
 ghost use mathlib.Core.Path.{_≡_};
 ghost use Rattle.refusal.specs.Outcome.Outcome.{given};
+ghost use Rattle.agreement.specs.Agreement.{agreementOutcome, agreementOf};
 ghost use Rattle.judge.specs.Verdicts.{verdictNumber};
 ghost use Rattle.judge.specs.Judgements.{Four, judgementOutcome, judgementOf};
 ghost use Rattle.judge.specs.Truth.{Truth};
-ghost use Rattle.judge.specs.Agreement.{agreementOutcome, agreementOf};
 
 // A charge in u, which is 10^-9 µeq/L, held apart from mass and conductivity by its type.
 pub struct Charge(pub u64);
@@ -62,13 +61,6 @@ pub enum Judgement {
     Refused(Refusal),
 }
 
-// Whether two records agree, or why that is not told.
-pub enum Agreement {
-    Agree,
-    Differ,
-    Refused(Refusal),
-}
-
 // The verdicts of a record, and whether it agrees with an earlier one.
 pub struct Repeat {
     pub judgement: Judgement,
@@ -84,15 +76,6 @@ pub fn judge(words: &[u32]) -> Judgement
     checks::judge_tested(record::test(words))
 }
 
-// Whether two analyses agree. The first record is refused before the second.
-pub fn agree(first: &[u32], second: &[u32]) -> Agreement
-    ensures { λ r. ⌜ agreementOutcome r ≡ agreementOf (now (first .entry)) (now (second .entry)) ⌝ }
-{
-    let one = record::test(first);
-    let other = record::test(second);
-    comparison::compare(one, other)
-}
-
 // Judges a record and compares it with an earlier one: what `judge` and `agree` answer, with each record tested once.
 pub fn judge_repeat(earlier: &[u32], words: &[u32]) -> Repeat
     ensures judged { λ r. ⌜ judgementOutcome (r .judgement) ≡ judgementOf (now (words .entry)) ⌝ }
@@ -101,7 +84,7 @@ pub fn judge_repeat(earlier: &[u32], words: &[u32]) -> Repeat
     let one = record::test(earlier);
     let other = record::test(words);
     let judgement = checks::judge_tested(other);
-    let agreement = comparison::compare(one, other);
+    let agreement = agreement::compare(one, other);
     Repeat {
         judgement,
         agreement,

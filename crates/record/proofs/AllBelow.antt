@@ -1,7 +1,7 @@
 -- A loop that goes by every index below n and is left at the first that fails: what its invariant and its two ways out cite.
--- And what the definition says of each index.
-use mathlib.Core.Path.{_≡_, refl, sym, ap, _∙_}
-use mathlib.Core.Bool.{Bool, true, false, and-false, true≢false}
+-- And what the definition says of each index, and of tests that answer alike.
+use mathlib.Core.Path.{_≡_, refl, sym, ap, ap₂, _∙_}
+use mathlib.Core.Bool.{Bool, true, false, _&&_, and-false, true≢false}
 use Prim.Native.Nat.{ℕ, zero, suc, _+_, _-_, _<_}
 use native.Mathlib.Nat.{add-zero, add-suc}
 use native.Mathlib.Numerals.{add-one}
@@ -38,3 +38,8 @@ module _ (f : ℕ → Bool) where
   unfolding allBelow
   each-all zero h = refl
   each-all (suc n) h = simp (each-all n (λ i l. h i (omega arith)), h n (omega arith))
+
+pub all-same : (f g : ℕ → Bool) (n : ℕ) → ((i : ℕ) → i < n → f i ≡ g i) → allBelow f n ≡ allBelow g n
+unfolding allBelow
+all-same f g zero h = refl
+all-same f g (suc n) h = ap₂ (λ (a b : Bool). a && b) (all-same f g n (λ i l. h i (omega arith))) (h n (omega arith))

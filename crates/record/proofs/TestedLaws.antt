@@ -25,10 +25,10 @@ module _ (s : List ℕ) where
   so-many zero = refl
   so-many (suc n) = length-append (firstAnalytes s n) _ ∙ ap (λ (k : ℕ). k + 1) (so-many n) ∙ add-one n
 
-  each : (n i : ℕ) → i < n → analyteAt (firstAnalytes s n) i ≡ analyteOf (readingAt s i)
+  pub each-analyte : (n i : ℕ) → i < n → analyteAt (firstAnalytes s n) i ≡ analyteOf (readingAt s i)
   unfolding firstAnalytes
-  each zero i l = absurd (omega arith)
-  each (suc n) i l = go (decLe n i) (each n i)
+  each-analyte zero i l = absurd (omega arith)
+  each-analyte (suc n) i l = go (decLe n i) (each-analyte n i)
     where
       go : Dec (n ≤ i) → (i < n → analyteAt (firstAnalytes s n) i ≡ analyteOf (readingAt s i)) → analyteAt (firstAnalytes s (suc n)) i ≡ analyteOf (readingAt s i)
       go (yes h) before = let e : i ≡ n = omega arith in rw e (getD-at (firstAnalytes s n) _ [] _ n (so-many n))
@@ -50,7 +50,7 @@ module _ {s : List ℕ} {r : TestedRecord} (t : OwnTests s r) where
         ph = ap (λ (f : Fields). f .ph) e;
         conductivity = ap (λ (f : Fields). f .conductivity) e;
         alkalinity = ap (λ (f : Fields). f .alkalinity) e;
-        readings = λ i l. ap (λ (f : Fields). analyteAt (f .analytes) i) e ∙ each s readings i l;
+        readings = λ i l. ap (λ (f : Fields). analyteAt (f .analytes) i) e ∙ each-analyte s readings i l;
       }
 
   pub tested-refused : {why : Refusal} {A : Type 0} → r .tested ≡ tested.Refused why → (rest : Outcome A) → refused (numberOf why) ≡ accepted s rest

@@ -47,6 +47,10 @@ sameSampleOf s t = eqb (length s) recordWords && (eqb (length t) recordWords && 
 abbrev pub readings : ℕ
 readings = 10
 
+-- 'the eight ions' are the first eight
+abbrev pub ions : ℕ
+ions = 8
+
 unfoldable pub readAt : List ℕ → ℕ → Outcome Reading
 readAt s i = readingOf (getD s (5 + 2 * i) 0) (getD s (5 + 2 * i + 1) 0)
 

@@ -29,6 +29,9 @@ pub const FIRST_READING: usize = 5;
 // Ten readings of two words.
 pub const READINGS: usize = 10;
 
+// The first eight of them are the ions.
+pub const IONS: usize = 8;
+
 // A reading of a record with its amount, 0 where it is missing.
 pub struct Analyte {
     pub reading: Reading,

@@ -1,6 +1,6 @@
-// The calls of `judge`.
+// The calls of `judge`, `agreement` and `record`.
 use crate::print;
-use judge::Agreement;
+use agreement::Agreement;
 use judge::Judgement;
 use judge::Verdicts;
 
@@ -42,7 +42,7 @@ fn agree_parts(count: u32, words: &[u32]) -> bool {
     }
     // Its start is written out, since the check then knows its length.
     let first = &words[0..n];
-    print_agreement(judge::agree(first, &words[n..]));
+    print_agreement(agreement::agree(first, &words[n..]));
     true
 }
 

@@ -4,9 +4,8 @@ use mathlib.Core.Bool.{true}
 use Prim.Native.Nat.{_-_, _≤_}
 use native.Mathlib.Omega.{arith}
 use Rattle.refusal.proofs.Testing.{failed, passed}
-use Rattle.record.specs.Record.{allBelow}
+use Rattle.record.specs.Record.{ions, allBelow}
 use Rattle.record.proofs.AllBelow.{all-none, all-more, all-fails}
-use Rattle.judge.specs.Ions.{ions}
 use Rattle.judge.specs.Analytes.{thereAt}
 use borrow.Author.Needs.{needs}
 use Rattle.judge.proofs.amounts.ions_known.Statement.{statement}

@@ -3,7 +3,8 @@ use mathlib.Core.Path.{_≡_, refl, sym, ap, ap₂, _∙_}
 use Prim.Native.Nat.{ℕ, _+_, _-_, _*_, _≤_}
 use native.Mathlib.Omega.{arith}
 use borrow.Author.Needs.{needs}
-use Rattle.judge.specs.Ions.{ions, cationCharge, anionCharge, conductance, conducted, sum}
+use Rattle.record.specs.Record.{ions}
+use Rattle.judge.specs.Ions.{cationCharge, anionCharge, conductance, conducted, sum}
 use Rattle.judge.specs.Analytes.{amountAt}
 use Rattle.judge.proofs.IonLaws.{sum-next, conducts, cations-only, anions-only, conducted-only}
 use Rattle.judge.proofs.ions.sums_of.Statement.{statement}

@@ -7,11 +7,10 @@ use Rattle.refusal.specs.Outcome.{Outcome}
 use Rattle.refusal.specs.Outcome.Outcome.{given, refused}
 use Rattle.refusal.specs.Numbers.{numberOf}
 use Rattle.reading.specs.declared.Reading.{Reading}
-use Rattle.judge.specs.declared.Agreement.{Agreement}
-use Rattle.judge.specs.declared.Agreement.the-variants as agreement
-use Rattle.record.specs.Record.{phOf, conductivityOf, alkalinityOf, readingAt, present, massOf, allBelow, accepted}
-use Rattle.judge.specs.Ions.{ions}
-use Rattle.judge.specs.IonBalance.{apart}
+use Rattle.agreement.specs.declared.Agreement.{Agreement}
+use Rattle.agreement.specs.declared.Agreement.the-variants as agreement
+use Rattle.record.specs.Record.{phOf, conductivityOf, alkalinityOf, ions, readingAt, present, massOf, allBelow, accepted}
+use Rattle.refusal.specs.Differences.{apart}
 
 -- whether they agree, or the number of a refusal
 abbrev pub agreementOutcome : Agreement → Outcome Bool

@@ -1,8 +1,8 @@
 -- Each return is what the definition picks by the tests that led there.
 use Rattle.refusal.proofs.Testing.{failed, passed}
 use borrow.Author.Needs.{needs}
-use Rattle.judge.proofs.comparison.agrees.Statement.{statement}
-use Rattle.judge.proofs.comparison.agrees.Tie as tie
+use Rattle.agreement.proofs.comparison.agrees.Statement.{statement}
+use Rattle.agreement.proofs.comparison.agrees.Tie as tie
 
 ph-agrees-requires : tie.Need-ph-agrees-requires
 ph-agrees-requires c κs = search needs

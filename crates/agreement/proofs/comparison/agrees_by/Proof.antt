@@ -2,17 +2,15 @@
 use mathlib.Core.Path.{_≡_}
 use Prim.Native.Nat.{_-_, max}
 use native.Mathlib.Omega.{arith}
-use Rattle.judge.specs.IonBalance.{apart}
-use Rattle.judge.specs.Agreement.{agreesBy}
+use Rattle.refusal.specs.Differences.{apart}
+use Rattle.agreement.specs.Agreement.{agreesBy}
+use Rattle.agreement.proofs.Tenths.{tenth}
 use borrow.Author.Needs.{needs}
-use Rattle.judge.proofs.comparison.agrees_by.Statement.{statement}
-use Rattle.judge.proofs.comparison.agrees_by.Tie as tie
+use Rattle.agreement.proofs.comparison.agrees_by.Statement.{statement}
+use Rattle.agreement.proofs.comparison.agrees_by.Tie as tie
 
 sub-result : tie.Need-sub-result
 sub-result c = search needs
-
-mul-result : tie.Need-mul-result
-mul-result c = search needs
 
 returns : tie.Need-returns
 unfolding agreesBy
@@ -20,10 +18,7 @@ returns c =
     let a = c .before .args in
     let e : apart (a .x) (a .y) ≡ a .y - a .x = omega arith in
     let m : max (a .x) (a .y) ≡ a .y = omega arith in
-    rw (e, m)
-
-mul-result-2 : tie.Need-mul-result-2
-mul-result-2 c = search needs
+    rw (e, m) (tenth (a .y - a .x) (a .y))
 
 returns-2 : tie.Need-returns-2
 unfolding agreesBy
@@ -31,7 +26,7 @@ returns-2 c =
     let a = c .before .args in
     let e : apart (a .x) (a .y) ≡ a .x - a .y = omega arith in
     let m : max (a .x) (a .y) ≡ a .x = omega arith in
-    rw (e, m)
+    rw (e, m) (tenth (a .x - a .y) (a .x))
 
 pub agrees-by-spec : {M : Type 1} → statement M
-agrees-by-spec = tie.close (tie.spec sub-result mul-result returns mul-result-2 returns-2)
+agrees-by-spec = tie.close (tie.spec sub-result returns returns-2)

@@ -2,11 +2,11 @@
 use mathlib.Core.Path.{_≡_}
 use Prim.Native.Nat.{_-_}
 use native.Mathlib.Omega.{arith}
-use Rattle.judge.specs.IonBalance.{apart}
-use Rattle.judge.specs.Agreement.{phAgrees}
+use Rattle.refusal.specs.Differences.{apart}
+use Rattle.agreement.specs.Agreement.{phAgrees}
 use borrow.Author.Needs.{needs}
-use Rattle.judge.proofs.comparison.ph_agrees.Statement.{statement}
-use Rattle.judge.proofs.comparison.ph_agrees.Tie as tie
+use Rattle.agreement.proofs.comparison.ph_agrees.Statement.{statement}
+use Rattle.agreement.proofs.comparison.ph_agrees.Tie as tie
 
 sub-result : tie.Need-sub-result
 sub-result c = search needs

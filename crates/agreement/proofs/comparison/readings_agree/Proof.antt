@@ -3,8 +3,8 @@ use mathlib.Core.Path.{ap}
 use mathlib.Core.Bool.{not}
 use Rattle.refusal.proofs.Testing.{failed, passed}
 use borrow.Author.Needs.{needs}
-use Rattle.judge.proofs.comparison.readings_agree.Statement.{statement}
-use Rattle.judge.proofs.comparison.readings_agree.Tie as tie
+use Rattle.agreement.proofs.comparison.readings_agree.Statement.{statement}
+use Rattle.agreement.proofs.comparison.readings_agree.Tie as tie
 
 is-present-requires : tie.Need-is-present-requires
 is-present-requires c κs = search needs

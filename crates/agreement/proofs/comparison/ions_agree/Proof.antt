@@ -4,13 +4,12 @@ use mathlib.Core.Bool.{true}
 use Prim.Native.Nat.{_-_, _≤_}
 use native.Mathlib.Omega.{arith}
 use Rattle.refusal.proofs.Testing.{failed, passed}
-use Rattle.record.specs.Record.{allBelow}
+use Rattle.record.specs.Record.{ions, allBelow}
 use Rattle.record.proofs.AllBelow.{all-none, all-more, all-fails}
-use Rattle.judge.specs.Ions.{ions}
-use Rattle.judge.specs.Analytes.{ionsAgreeAt}
+use Rattle.agreement.specs.Compared.{ionsAgreeAt}
 use borrow.Author.Needs.{needs}
-use Rattle.judge.proofs.comparison.ions_agree.Statement.{statement}
-use Rattle.judge.proofs.comparison.ions_agree.Tie as tie
+use Rattle.agreement.proofs.comparison.ions_agree.Statement.{statement}
+use Rattle.agreement.proofs.comparison.ions_agree.Tie as tie
 
 abbrev Inv-loop : tie.InvT-loop
 Inv-loop a b i₀ i = (i ≤ ions) × (allBelow (ionsAgreeAt a b) i ≡ true)
@@ -34,9 +33,7 @@ array-copy-out-second : tie.Need-array-copy-out-second Inv-loop μ-loop
 array-copy-out-second c = search needs
 
 readings-agree-requires : tie.Need-readings-agree-requires Inv-loop μ-loop
-readings-agree-requires c κs = let l = c .before .before .before in
-    let p = l .before .pre in
-    (omega (arith, p .0 .most (l .loop .i) (omega arith)), omega (arith, p .1 .most (l .loop .i) (omega arith)))
+readings-agree-requires c κs = search needs
 
 returns : tie.Need-returns Inv-loop μ-loop
 returns c = let turn = c .before .before .before .before in

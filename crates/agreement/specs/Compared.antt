@@ -1,0 +1,35 @@
+-- The same of two records by their fields, as the record's own tests hand them on.
+use mathlib.Core.Bool.{Bool, false, cond, not}
+use mathlib.Core.List.{List}
+use Prim.Native.Nat.{ℕ}
+use Rattle.refusal.specs.Outcome.{Outcome}
+use Rattle.refusal.specs.Outcome.Outcome.{given, refused}
+use Rattle.record.specs.declared.Analyte.{Analyte}
+use Rattle.record.specs.declared.TestedRecord.{TestedRecord}
+use Rattle.record.specs.Record.{ions, present, allBelow}
+use Rattle.record.specs.Tested.{Fields, analyteAt, fieldsIn}
+use Rattle.agreement.specs.Agreement.{phAgrees, agreesBy}
+
+abbrev pub analytesAgree : Analyte → Analyte → Bool
+analytesAgree a b = cond (present (a .reading)) (cond (present (b .reading)) (agreesBy (a .mass .0) (b .mass .0)) false) (not (present (b .reading)))
+
+abbrev pub ionsAgreeAt : List Analyte → List Analyte → ℕ → Bool
+ionsAgreeAt a b i = analytesAgree (analyteAt a i) (analyteAt b i)
+
+abbrev pub fieldsAgree : Fields → Fields → Bool
+fieldsAgree a b =
+    cond (phAgrees (a .ph) (b .ph))
+    (cond (agreesBy (a .conductivity) (b .conductivity))
+    (cond (agreesBy (a .alkalinity) (b .alkalinity)) (allBelow (ionsAgreeAt (a .analytes) (b .analytes)) ions) false)
+    false)
+    false
+
+-- the floor of hydrogen is not compared
+abbrev pub agreesIn : TestedRecord → TestedRecord → Bool
+agreesIn a b = fieldsAgree (fieldsIn a 0) (fieldsIn b 0)
+
+-- the first is refused before the second
+unfoldable pub comparedOf : Outcome Fields → Outcome Fields → Outcome Bool
+comparedOf (given a) (given b) = given (fieldsAgree a b)
+comparedOf (given a) (refused n) = refused n
+comparedOf (refused n) o = refused n
