@@ -2,10 +2,10 @@
 use crate::MOST;
 use crate::State;
 use agreement::Agreement;
-use judge::Verdict;
 use judge::Verdicts;
+use verdict::Verdict;
 ghost use mathlib.Core.Path.{_≡_};
-ghost use Rattle.judge.specs.Verdicts.{verdictNumber};
+ghost use Rattle.verdict.specs.Numbers.{verdictNumber};
 ghost use Rattle.judge.specs.Judgements.{numbersOf};
 ghost use Rattle.agreement.specs.Agreement.{agreementOutcome};
 ghost use Rattle.docket.specs.Terms.{standingOf};

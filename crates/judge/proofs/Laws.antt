@@ -2,18 +2,14 @@
 use mathlib.Core.Path.{_≡_, sym}
 use mathlib.Core.List.{List}
 use Prim.Native.Nat.{ℕ, _≤_}
-use lib.Dec.{lit≤}
 use lib.ListN.{length}
 use Rattle.refusal.specs.Outcome.Outcome.{given, refused}
 use Rattle.refusal.specs.Numbers.{numberOf}
 use Rattle.refusal.specs.declared.Refusal.{Refusal}
 use Rattle.record.specs.declared.Tested.the-variants as tested
 use Rattle.record.specs.declared.TestedRecord.{TestedRecord}
-use Rattle.judge.specs.declared.Verdict.{Verdict}
-use Rattle.judge.specs.declared.Verdict.the-variants as verdict
 use Rattle.record.specs.Record.{recordWords}
 use Rattle.record.specs.Tested.{OwnTests}
-use Rattle.judge.specs.Verdicts.{verdictNumber}
 use Rattle.judge.specs.Judgements.{Four, verdictsOf, judgementOf}
 use Rattle.judge.specs.Truth.{Truth}
 use Rattle.record.proofs.AcceptedLaws.{Valid, accepted-given}
@@ -52,11 +48,3 @@ valid-judged s valid = judging.judged s valid
 pub refused-judged : (s : List ℕ) {r : TestedRecord} {why : Refusal} → OwnTests s r → r .tested ≡ tested.Refused why → judgementOf s ≡ refused (numberOf why)
 unfolding judgementOf
 refused-judged s t e = sym (tested-refused t e (given (verdictsOf s)))
-
--- the greatest verdict number
-pub verdict-most : (v : Verdict) → verdictNumber v ≤ 4
-verdict-most verdict.NotApplicable = lit≤ tt
-verdict-most verdict.Within = lit≤ tt
-verdict-most verdict.Outside = lit≤ tt
-verdict-most verdict.Undecided = lit≤ tt
-verdict-most verdict.Missing = lit≤ tt

@@ -8,7 +8,7 @@ use Rattle.judge.specs.declared.Verdicts.{Verdicts}
 use Rattle.judge.specs.declared.Judgement.{Judgement}
 use Rattle.judge.specs.declared.Judgement.the-variants as judgement
 use Rattle.record.specs.Record.{accepted}
-use Rattle.judge.specs.Verdicts.{verdictNumber}
+use Rattle.verdict.specs.Numbers.{verdictNumber}
 use Rattle.judge.specs.IonBalance.{ionBalanceOf}
 use Rattle.judge.specs.Conductivity.{conductivityVerdict}
 use Rattle.judge.specs.Ratios.{sodiumChlorideOf, nitrogenOf}

@@ -1,6 +1,5 @@
 // The ion balance.
 use crate::Charge;
-use crate::Verdict;
 use crate::checks::Hydrogen;
 use crate::checks::Solution;
 use crate::ions;
@@ -10,10 +9,11 @@ use crate::window::Span;
 use crate::window::Window;
 use record::Analyte;
 use record::TestedRecord;
+use verdict::Verdict;
 ghost use mathlib.Core.Path.{_≡_};
 ghost use Prim.Native.Nat.{_+_, _≤_};
 ghost use Rattle.record.specs.Record.{present};
-ghost use Rattle.judge.specs.Verdicts.{verdictNumber};
+ghost use Rattle.verdict.specs.Numbers.{verdictNumber};
 ghost use Rattle.judge.specs.Corners.{decided};
 ghost use Rattle.judge.specs.Prepared.{Bounded, balanceIn};
 ghost use Rattle.judge.specs.IonBalance.{balanceApplies, balanceLimit, balanceWindow};

@@ -1,6 +1,5 @@
 // The conductivity that the ions account for, against the measured one.
 use crate::Conductivity;
-use crate::Verdict;
 use crate::checks::Hydrogen;
 use crate::checks::Solution;
 use crate::ions;
@@ -9,9 +8,10 @@ use crate::window::Fraction;
 use crate::window::Span;
 use crate::window::Window;
 use record::TestedRecord;
+use verdict::Verdict;
 ghost use mathlib.Core.Path.{_≡_};
 ghost use Prim.Native.Nat.{_+_, _*_, _≤_};
-ghost use Rattle.judge.specs.Verdicts.{verdictNumber};
+ghost use Rattle.verdict.specs.Numbers.{verdictNumber};
 ghost use Rattle.judge.specs.Ions.{hydrogenConductance};
 ghost use Rattle.judge.specs.Corners.{decided};
 ghost use Rattle.judge.specs.Prepared.{Bounded, conductivityIn};

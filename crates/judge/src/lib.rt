@@ -10,10 +10,10 @@ mod window;
 
 use agreement::Agreement;
 use refusal::Refusal;
+use verdict::Verdict;
 ghost use mathlib.Core.Path.{_≡_};
 ghost use Rattle.refusal.specs.Outcome.Outcome.{given};
 ghost use Rattle.agreement.specs.Agreement.{agreementOutcome, agreementOf};
-ghost use Rattle.judge.specs.Verdicts.{verdictNumber};
 ghost use Rattle.judge.specs.Judgements.{Four, judgementOutcome, judgementOf};
 ghost use Rattle.judge.specs.Truth.{Truth};
 
@@ -22,30 +22,6 @@ pub struct Charge(pub u64);
 
 // A conductivity in 10^-13 µS/cm, held apart from mass and charge by its type.
 pub struct Conductivity(pub u64);
-
-// What a check says of a record.
-pub enum Verdict {
-    NotApplicable,
-    Within,
-    Outside,
-    Undecided,
-    Missing,
-}
-
-impl Verdict {
-    // The paper's number of a verdict.
-    pub fn number(self) -> u32
-        ensures { λ r. ⌜ r ≡ verdictNumber self ⌝ }
-    {
-        match self {
-            Verdict::NotApplicable => 0,
-            Verdict::Within => 1,
-            Verdict::Outside => 2,
-            Verdict::Undecided => 3,
-            Verdict::Missing => 4,
-        }
-    }
-}
 
 // The verdicts of the four checks: ion balance, conductivity, sodium/chloride ratio and nitrogen.
 pub struct Verdicts {

@@ -1,5 +1,4 @@
 // Total nitrogen against the nitrogen of nitrate and ammonium.
-use crate::Verdict;
 use crate::amounts;
 use crate::ions;
 use crate::window;
@@ -8,12 +7,13 @@ use crate::window::Span;
 use crate::window::Window;
 use reading::Mass;
 use record::Analyte;
+use verdict::Verdict;
 ghost use mathlib.Core.Path.{_≡_};
 ghost use Prim.Native.Nat.{_+_, _≤_};
 ghost use Rattle.record.specs.Record.{mostMass};
 ghost use Rattle.record.specs.Tested.{analyteAt};
 ghost use Rattle.judge.specs.Ions.{ammonium, nitrate, totalNitrogen};
-ghost use Rattle.judge.specs.Verdicts.{verdictNumber};
+ghost use Rattle.verdict.specs.Numbers.{verdictNumber};
 ghost use Rattle.judge.specs.Corners.{decided};
 ghost use Rattle.judge.specs.Ratios.{nitrogenWindow};
 ghost use Rattle.judge.specs.Analytes.{Small, nitrogenIn};

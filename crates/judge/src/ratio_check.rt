@@ -1,18 +1,18 @@
 // The sodium/chloride ratio.
 use crate::Charge;
-use crate::Verdict;
 use crate::ions;
 use crate::window;
 use crate::window::Fraction;
 use crate::window::Span;
 use crate::window::Window;
 use record::Analyte;
+use verdict::Verdict;
 ghost use mathlib.Core.Path.{_≡_};
 ghost use Prim.Native.Nat.{_≤_};
 ghost use Rattle.record.specs.Record.{mostMass};
 ghost use Rattle.record.specs.Tested.{analyteAt};
 ghost use Rattle.judge.specs.Ions.{sodium, chloride};
-ghost use Rattle.judge.specs.Verdicts.{verdictNumber};
+ghost use Rattle.verdict.specs.Numbers.{verdictNumber};
 ghost use Rattle.judge.specs.Corners.{decided};
 ghost use Rattle.judge.specs.Ratios.{sodiumChlorideWindow};
 ghost use Rattle.judge.specs.Analytes.{Small, ratioIn};

@@ -1,8 +1,8 @@
 // A window for the ratio of two sums, and the verdict by the corners of their ranges.
-use crate::Verdict;
+use verdict::Verdict;
 ghost use mathlib.Core.Path.{_≡_};
 ghost use Prim.Native.Nat.{_+_, _*_, _^_, _<_};
-ghost use Rattle.judge.specs.Verdicts.{verdictNumber};
+ghost use Rattle.verdict.specs.Numbers.{verdictNumber};
 ghost use Rattle.judge.specs.Corners.{above, decided};
 ghost use Rattle.judge.specs.Room.{Room};
 
