@@ -10,7 +10,7 @@ use Rattle.refusal.specs.Outcome.Outcome.{given, refused}
 use Rattle.refusal.specs.Numbers.{numberOf}
 use Rattle.refusal.specs.declared.Refusal.the-variants as refusal
 use Rattle.record.specs.Record.{sameSampleOf}
-use Rattle.docket.specs.Terms.{Standing, isOpen, DocketTerms, Reply, mostTaken}
+use Rattle.docket.specs.Terms.{isOpen, DocketTerms, Reply, mostTaken}
 use Rattle.docket.specs.Terms.Reply.{taken}
 use Rattle.docket.specs.Offers.{isEmpty}
 

@@ -11,7 +11,7 @@ use judge::Verdicts;
 use record::Tested;
 use refusal::Refusal;
 ghost use mathlib.Core.Path.{_≡_};
-ghost use mathlib.Core.Bool.{true, false};
+ghost use mathlib.Core.Bool.{false};
 ghost use Rattle.refusal.specs.Outcome.Outcome.{given};
 ghost use Rattle.refusal.specs.Numbers.{numberOf};
 ghost use Rattle.judge.specs.Judgements.{numbersOf, judgementOf};

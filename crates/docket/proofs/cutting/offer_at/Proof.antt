@@ -1,5 +1,5 @@
 -- The part that is offered is the record that starts at the place.
-use mathlib.Core.Path.{ap, _∙_}
+use mathlib.Core.Path.{ap}
 use Rattle.docket.specs.Terms.{OfferedTerms}
 use Rattle.docket.proofs.CuttingLaws.{cut}
 use borrow.Author.Needs.{needs}

@@ -1,5 +1,5 @@
 -- The admission says whether the repeat is taken; it is judged, so it has its words.
-use mathlib.Core.Path.{sym, ap, _∙_}
+use mathlib.Core.Path.{ap, _∙_}
 use native.Mathlib.Omega.{arith}
 use Rattle.judge.proofs.Laws.{judged-length}
 use Rattle.docket.specs.Terms.{answerOutcome}
