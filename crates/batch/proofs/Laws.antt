@@ -11,10 +11,12 @@ use Rattle.refusal.specs.Outcome.{Outcome}
 use Rattle.refusal.specs.Outcome.Outcome.{given, refused}
 use Rattle.refusal.proofs.Outcomes.{never}
 use Rattle.judge.proofs.Laws.{judged-valid, judged-most}
-use Rattle.batch.specs.Batches.{Chart, Sample, Batch, batchOf}
+use Rattle.words.proofs.TakenLaws.{Every}
+use Rattle.controls.specs.Controls.{Chart}
+use Rattle.batch.specs.Batches.{Sample, Batch, batchOf}
 use Rattle.batch.specs.Rows.{rowWords, flagged, rowOf, rowsOf, answerOf, answeredBy, batchAnswer, SmallRow, Listed}
 use Rattle.batch.specs.Layout.{ReadsItsLayout}
-use Rattle.batch.proofs.TakenLaws.{Every, Judged, batch-read}
+use Rattle.batch.proofs.TakenLaws.{Judged, batch-read}
 
 rows-length : (cs : List Chart) (ss : List Sample) → length (rowsOf cs ss) ≡ rowWords * length ss
 unfolding rowsOf

@@ -1,8 +1,4 @@
 -- The laws behind this crate's contracts. Other crates cite `Laws`, and nothing else of it.
-mod SliceLaws
-mod ManyLaws
-mod ElementLaws
-mod ChartLaws
 mod FlagLaws
 mod SampleLaws
 mod WholeLaws

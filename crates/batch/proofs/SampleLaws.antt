@@ -12,15 +12,15 @@ use Rattle.refusal.specs.Numbers.{numberOf}
 use Rattle.refusal.specs.declared.Refusal.the-variants as refusal
 use Rattle.record.specs.Record.{recordWords}
 use Rattle.judge.specs.Judgements.{Four, judgementOf}
-use Rattle.batch.specs.FromFront.{Read, taken, many}
 use Rattle.batch.specs.Batches.{Sample, mostSamples, sampleOf, samplesOf}
 use Rattle.batch.specs.Rows.{rowWords, rowWith}
 use Rattle.refusal.specs.Lent.{placed}
 use Rattle.batch.specs.Said.{bufferWords, flaggedBy, rowBy, rowsBy, samplesAnswer}
-use Rattle.batch.proofs.ManyLaws.{then-taken, then-refused, many-none, many-refused, many-next, section-short, section-over, section-begins}
-use Rattle.batch.proofs.SliceLaws.{part-of}
 use Rattle.refusal.proofs.PlaceLaws.{placed-take, length-placed}
+use Rattle.words.specs.FromFront.{Read, taken, many}
 use Rattle.words.specs.Room.{placedWithin}
+use Rattle.words.proofs.SliceLaws.{part-of}
+use Rattle.words.proofs.ManyLaws.{then-taken, then-refused, many-none, many-refused, many-next, section-short, section-over, section-begins}
 use Rattle.words.proofs.Laws.{placed-all}
 
 -- ---- one sample

@@ -18,17 +18,19 @@ use Rattle.refusal.specs.declared.Written.{Written}
 use Rattle.refusal.specs.declared.Written.the-variants as written
 use Rattle.refusal.proofs.LentLaws.{Answers, refused-before, too-short, written as written-whole}
 use Rattle.refusal.proofs.PlaceLaws.{placed-front}
+use Rattle.words.specs.FromFront.{Read, taken, then}
 use Rattle.words.specs.Room.{placedWithin}
 use Rattle.words.proofs.Laws.{placed-all}
-use Rattle.batch.specs.declared.Ended.{Ended}
-use Rattle.batch.specs.declared.Ended.the-variants as ended
-use Rattle.batch.specs.declared.ChartColumns.{ChartColumns}
-use Rattle.batch.specs.FromFront.{Read, taken, then}
-use Rattle.batch.specs.Batches.{Chart, Sample, elementsOf, chartsOf, samplesOf, nothingLeft, batchOf}
+use Rattle.words.proofs.SliceLaws.{rest-of, front-of}
+use Rattle.words.proofs.ManyLaws.{then-taken, then-refused}
+use Rattle.controls.specs.declared.Ended.the-variants as ended
+use Rattle.controls.specs.declared.ChartColumns.{ChartColumns}
+use Rattle.controls.specs.Controls.{Chart, elementsOf, signalsIn, chartsOf}
+use Rattle.controls.specs.Columns.{columnsOf, columnsOutcome}
+use Rattle.controls.proofs.Laws.{Held, columns-held, columns-refused}
+use Rattle.batch.specs.Batches.{Sample, samplesOf, nothingLeft, batchOf}
 use Rattle.batch.specs.Rows.{answeredBy, rowsOf, batchAnswer}
-use Rattle.batch.specs.Said.{signalsIn, rowsBy, samplesAnswer, MadeSaid, ChartsEnded, ChartsSaid}
-use Rattle.batch.proofs.SliceLaws.{rest-of, front-of}
-use Rattle.batch.proofs.ManyLaws.{then-taken, then-refused}
+use Rattle.batch.specs.Said.{rowsBy, samplesAnswer, MadeSaid}
 use Rattle.batch.proofs.FlagLaws.{flag-same}
 
 -- what is returned and what the lent slice then holds, where x was to be answered and the slice was old
@@ -37,11 +39,11 @@ Done x old r new = Answers x old (writtenOutcome r) new
 
 -- ---- how making x in a buffer ended
 
-module _ (x : Outcome (List ℕ)) (buffer : List ℕ) (r : Ended) (m : MadeSaid r x buffer) where
-  pub made-refused : (old : List ℕ) (why : Refusal) → r ≡ ended.Refused why → Done x old (written.Refused why) old
+module _ (x : Outcome (List ℕ)) (buffer : List ℕ) (r : Written) (m : MadeSaid r x buffer) where
+  pub made-refused : (old : List ℕ) (why : Refusal) → r ≡ written.Refused why → Done x old (written.Refused why) old
   made-refused old why e = refused-before x old (numberOf why) (sym (rw e at m))
 
-  module _ (size : ℕ) (e : r ≡ ended.Whole size) where
+  module _ (size : ℕ) (e : r ≡ written.Length size) where
     said : (x ≡ given (take size buffer)) × (size ≤ length buffer)
     said = rw e at m
 
@@ -87,27 +89,27 @@ charts-taken s rest cs e = by-samples (samplesOf rest) ∙ sym (ap answeredBy (t
 
 -- how reading the charts ended: the batch is refused, or its samples are judged. The columns and the words are those that the
 -- code lends
-module _ (s : List ℕ) (columns : ChartColumns) (m : ChartsSaid s columns) where
+module _ (s : List ℕ) (columns : ChartColumns) (m : columnsOutcome columns ≡ columnsOf s) where
   pub read-refused : (old : List ℕ) (why : Refusal) → columns .ended ≡ ended.Refused why → Done (batchAnswer s) old (written.Refused why) old
-  read-refused old why e = refused-before (batchAnswer s) old (numberOf why) (sym (charts-refused s (numberOf why) (rw e at m)))
+  read-refused old why e = refused-before (batchAnswer s) old (numberOf why) (sym (charts-refused s (numberOf why) (columns-refused s columns m e)))
 
   module _ (size : ℕ) (e : columns .ended ≡ ended.Whole size) where
-    read : ChartsEnded (ended.Whole size) (columns .count) (columns .elements) (columns .signals) s
-    read = rw e at m
+    held : Held s columns size
+    held = columns-held s columns m e
 
     pub read-size : size ≤ length s
-    read-size = read .2
+    read-size = held .inside
 
     pub read-counts : (columns .count ≤ length (columns .elements)) × (columns .count ≤ length (columns .signals))
-    read-counts = (read .5, read .6)
+    read-counts = (held .elementsFit, held .signalsFit)
 
     abbrev lent : Outcome (List ℕ)
     lent = samplesAnswer (take (columns .count - 0) (drop 0 (columns .elements))) (take (columns .count - 0) (drop 0 (columns .signals))) (take (length s - size) (drop size s))
 
     same : lent ≡ batchAnswer s
     same =
-        rw (front-of (columns .elements) (columns .count), front-of (columns .signals) (columns .count), rest-of s size, read .3, read .4)
-        (charts-taken s (drop size s) (read .0) (read .1))
+        rw (front-of (columns .elements) (columns .count), front-of (columns .signals) (columns .count), rest-of s size, held .elements, held .signals)
+        (charts-taken s (drop size s) (held .charts) (held .read))
 
     pub read-judged : (old : List ℕ) (r : Written) (new : List ℕ) → Done lent old r new → Done (batchAnswer s) old r new
     read-judged old r new d = rw same at d

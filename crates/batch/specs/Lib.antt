@@ -1,4 +1,3 @@
-pub mod FromFront
 pub mod Batches
 pub mod Rows
 pub mod Said

@@ -10,16 +10,12 @@ use Rattle.refusal.specs.Outcome.{Outcome}
 use Rattle.refusal.specs.Outcome.Outcome.{given, refused}
 use Rattle.record.specs.Record.{sampleNumber, hasReading}
 use Rattle.judge.specs.Judgements.{Four}
-use Rattle.chart.specs.Charts.{lastWord}
-use Rattle.batch.specs.Batches.{Chart, Sample, Batch, mostSamples, batchOf}
+use Rattle.controls.specs.Controls.{Chart, signalOf}
+use Rattle.batch.specs.Batches.{Sample, Batch, mostSamples, batchOf}
 
 -- 'six words a sample'
 abbrev pub rowWords : ℕ
 rowWords = 6
-
--- the signal at the last later value. 'A chart without later values has no signal': its word is 0
-abbrev pub signalOf : Chart → ℕ
-signalOf c = lastWord (c .setup) (c .later)
 
 unfoldable pub flagged : List Chart → List ℕ → Bool
 flagged [] w = false

@@ -2,40 +2,19 @@
 -- columns, their elements and their last signals, and the answer is made in a buffer.
 use mathlib.Core.Path.{_≡_}
 use mathlib.Core.Bool.{Bool, false, _&&_, _||_, not}
-use mathlib.Core.List.{List, [], _∷_, _++_, map}
+use mathlib.Core.List.{List, [], _∷_, _++_}
 use Prim.Native.Nat.{ℕ, _+_, _*_, _≤_}
 use lib.Dec.{eqb}
-use lib.ListN.{length, take, drop}
+use lib.ListN.{length, take}
 use Rattle.refusal.specs.Outcome.{Outcome}
 use Rattle.refusal.specs.Outcome.Outcome.{given, refused}
 use Rattle.refusal.specs.Numbers.{numberOf}
+use Rattle.refusal.specs.declared.Written.{Written}
+use Rattle.refusal.specs.declared.Written.the-variants as written
 use Rattle.record.specs.Record.{hasReading}
-use Rattle.batch.specs.declared.ChartRead.{ChartRead}
-use Rattle.batch.specs.declared.ChartRead.the-variants as chart-read
-use Rattle.batch.specs.declared.Ended.{Ended}
-use Rattle.batch.specs.declared.Ended.the-variants as ended
-use Rattle.batch.specs.declared.ChartColumns.{ChartColumns}
-use Rattle.batch.specs.FromFront.{Read, taken, then}
-use Rattle.batch.specs.Batches.{Chart, Sample, mostSamples, elementsOf, chartsOf, samplesOf, nothingLeft}
-use Rattle.batch.specs.Rows.{rowWords, signalOf, rowWith}
-
-abbrev pub signalsIn : List Chart → List ℕ
-signalsIn cs = map signalOf cs
-
--- what reading the chart at the front of the words s found
-abbrev pub ChartSaid : ChartRead → Read Chart → List ℕ → Type 0
-ChartSaid (chart-read.Chart e g size) x s =
-    (c : Chart) × (x ≡ taken c (drop size s)) × (size ≤ length s) × (c .element ≡ e) × (signalOf c ≡ g)
-ChartSaid (chart-read.Refused why) x s = x ≡ refused (numberOf why)
-
--- how reading the charts at the front of the words s ended, and the columns then
-abbrev pub ChartsEnded : Ended → ℕ → List ℕ → List ℕ → List ℕ → Type 0
-ChartsEnded (ended.Whole size) count es gs s =
-    (cs : List Chart) × (chartsOf s ≡ taken cs (drop size s)) × (size ≤ length s) × (take count es ≡ elementsOf cs) × (take count gs ≡ signalsIn cs) × (count ≤ length es) × (count ≤ length gs)
-ChartsEnded (ended.Refused why) count es gs s = chartsOf s ≡ refused (numberOf why)
-
-abbrev pub ChartsSaid : List ℕ → ChartColumns → Type 0
-ChartsSaid s r = ChartsEnded (r .ended) (r .count) (r .elements) (r .signals) s
+use Rattle.words.specs.FromFront.{then}
+use Rattle.batch.specs.Batches.{Sample, mostSamples, samplesOf, nothingLeft}
+use Rattle.batch.specs.Rows.{rowWords, rowWith}
 
 -- `flagged` by the columns
 unfoldable pub flaggedBy : List ℕ → List ℕ → List ℕ → Bool
@@ -59,6 +38,6 @@ abbrev pub bufferWords : ℕ
 bufferWords = 1 + mostSamples * rowWords
 
 -- how making an answer x in a buffer ended: its first words are the answer
-abbrev pub MadeSaid : Ended → Outcome (List ℕ) → List ℕ → Type 0
-MadeSaid (ended.Whole size) x buffer = (x ≡ given (take size buffer)) × (size ≤ length buffer)
-MadeSaid (ended.Refused why) x buffer = x ≡ refused (numberOf why)
+abbrev pub MadeSaid : Written → Outcome (List ℕ) → List ℕ → Type 0
+MadeSaid (written.Length size) x buffer = (x ≡ given (take size buffer)) × (size ≤ length buffer)
+MadeSaid (written.Refused why) x buffer = x ≡ refused (numberOf why)

@@ -1,8 +1,8 @@
 // Judges a batch (document 01, 'A batch'): control charts, then samples. The answer is the sample count, then a row a sample.
-mod charts;
 mod rows;
 mod samples;
 
+use controls::Ended;
 use refusal::Refusal;
 use refusal::Written;
 ghost use mathlib.Core.Path.{_≡_};
@@ -12,8 +12,6 @@ ghost use Rattle.batch.specs.Rows.{batchAnswer};
 ghost use Rattle.batch.specs.Layout.{ReadsItsLayout};
 ghost use Rattle.batch.specs.Said.{samplesAnswer};
 
-pub const MOST_CHARTS: usize = 10;
-
 pub const MOST_SAMPLES: usize = 400;
 
 // The words of a row.
@@ -22,30 +20,6 @@ pub const ROW_WORDS: usize = 6;
 // The words of the longest answer.
 pub const MOST_ANSWER: usize = 1 + MOST_SAMPLES * ROW_WORDS;
 
-// What reading a chart finds: its element, the signal at its last later value and how many words it has; or why it is refused.
-pub enum ChartRead {
-    Chart {
-        element: u32,
-        signal: u32,
-        size: usize,
-    },
-    Refused(Refusal),
-}
-
-// How a part of the work ended: whole, with so many words, or refused.
-pub enum Ended {
-    Whole(usize),
-    Refused(Refusal),
-}
-
-// The charts' section: how reading it ended, how many charts it has, and each one's element and last signal.
-pub struct ChartColumns {
-    pub ended: Ended,
-    pub count: usize,
-    pub elements: [u32; MOST_CHARTS],
-    pub signals: [u32; MOST_CHARTS],
-}
-
 // Judges a batch, and writes the answer to the start of the lent slice. After a refusal that is as it was. The third promise
 // says that what was read of a batch is all that its words say.
 pub fn judge_batch(words: &[u32], out: &mut [u32]) -> Written
@@ -53,7 +27,7 @@ pub fn judge_batch(words: &[u32], out: &mut [u32]) -> Written
     ensures lent { λ _. ⌜ now (out .exit) ≡ lentAfter (fitting (length (now (out .entry))) (batchAnswer (now (words .entry)))) (now (out .entry)) ⌝ }
     ensures layout { λ _. ⌜ ReadsItsLayout ⌝ }
 {
-    let read = charts::read(words);
+    let read = controls::read(words);
     let ended = read.ended;
     match ended {
         Ended::Whole(size) => {
@@ -75,13 +49,13 @@ fn judge_samples(words: &[u32], elements: &[u32], signals: &[u32], out: &mut [u3
 {
     let mut buffer = [0u32; MOST_ANSWER];
     match samples::make_rows(words, elements, signals, &mut buffer) {
-        Ended::Whole(size) => {
+        Written::Length(size) => {
             if out.len() < size {
                 return Written::Refused(Refusal::OutputLength);
             }
             words::place(&buffer[0..size], out, 0);
             Written::Length(size)
         }
-        Ended::Refused(why) => Written::Refused(why),
+        Written::Refused(why) => Written::Refused(why),
     }
 }

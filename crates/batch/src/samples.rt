@@ -1,10 +1,10 @@
 // The samples of a batch, read from the front and judged.
-use crate::Ended;
 use crate::MOST_SAMPLES;
 use crate::ROW_WORDS;
 use crate::rows;
 use judge::Judgement;
 use refusal::Refusal;
+use refusal::Written;
 ghost use mathlib.Core.Path.{_≡_};
 ghost use Prim.Native.Nat.{_≤_};
 ghost use lib.ListN.{length, getD};
@@ -12,17 +12,17 @@ ghost use Rattle.batch.specs.Batches.{mostSamples};
 ghost use Rattle.batch.specs.Said.{samplesAnswer, MadeSaid, bufferWords};
 
 // Makes the answer to the samples' section in a buffer: their count, then a row for each. The words are all that is left of
-// the batch.
-pub fn make_rows(words: &[u32], elements: &[u32], signals: &[u32], buffer: &mut [u32]) -> Ended
+// the batch. What a refusal leaves in the buffer is of no use.
+pub fn make_rows(words: &[u32], elements: &[u32], signals: &[u32], buffer: &mut [u32]) -> Written
     requires { ⌜ (length (now elements) ≡ length (now signals)) × (length (now buffer) ≡ bufferWords) ⌝ }
     ensures { λ r. ⌜ MadeSaid r (samplesAnswer (now (elements .entry)) (now (signals .entry)) (now (words .entry))) (now (buffer .exit)) ⌝ }
 {
     if words.len() < 1 {
-        return Ended::Refused(Refusal::BatchLength);
+        return Written::Refused(Refusal::BatchLength);
     }
     let first = words[0];
     if first > MOST_SAMPLES as u32 {
-        return Ended::Refused(Refusal::Count);
+        return Written::Refused(Refusal::Count);
     }
     buffer[0] = first;
     make_all(words, first as usize, elements, signals, buffer)
@@ -35,7 +35,7 @@ fn make_all(
     elements: &[u32],
     signals: &[u32],
     buffer: &mut [u32],
-) -> Ended
+) -> Written
     requires { ⌜ (length (now elements) ≡ length (now signals)) × (length (now buffer) ≡ bufferWords) ⌝ }
     requires { ⌜ (1 ≤ length (now words)) × (getD (now words) 0 0 ≡ count) × (count ≤ mostSamples) × (getD (now buffer) 0 0 ≡ count) ⌝ }
     ensures { λ r. ⌜ MadeSaid r (samplesAnswer (now (elements .entry)) (now (signals .entry)) (now (words .entry))) (now (buffer .exit)) ⌝ }
@@ -46,7 +46,7 @@ fn make_all(
     while i < count {
         let end = at + record::WORDS;
         if words.len() < end {
-            return Ended::Refused(Refusal::BatchLength);
+            return Written::Refused(Refusal::BatchLength);
         }
         let record = &words[at..end];
         match judge::judge(record) {
@@ -58,12 +58,12 @@ fn make_all(
                 i += 1;
             }
             Judgement::Refused(why) => {
-                return Ended::Refused(why);
+                return Written::Refused(why);
             }
         }
     }
     if at < words.len() {
-        return Ended::Refused(Refusal::BatchLength);
+        return Written::Refused(Refusal::BatchLength);
     }
-    Ended::Whole(size)
+    Written::Length(size)
 }

@@ -1,4 +1,7 @@
--- The laws behind this crate's contracts. Other crates cite `Laws`, and nothing else of it.
+-- The laws behind this crate's contracts, and those on words read from the front. Other crates cite the public ones.
 mod PackedLaws
 mod RoomLaws
+pub mod SliceLaws
+pub mod ManyLaws
+pub mod TakenLaws
 pub mod Laws

@@ -1,3 +1,5 @@
 pub mod Words
 pub mod Room
 pub mod Steps
+pub mod FromFront
+pub mod Sections

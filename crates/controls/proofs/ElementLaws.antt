@@ -7,7 +7,7 @@ use native.Mathlib.Numerals.{add-one}
 use borrow.Author.Tests.{eq-eqb, ne-eqb}
 use lib.ListN.{length, getD, drop, drop-of-length-le}
 use lib.Seq.{drop-cons}
-use Rattle.batch.specs.Batches.{member}
+use Rattle.controls.specs.Controls.{member}
 
 module _ (e : ℕ) (used : List ℕ) (i : ℕ) where
   pub member-found : i < length used → getD used i 0 ≡ e → member e (drop i used) ≡ true

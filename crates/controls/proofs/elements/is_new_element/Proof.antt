@@ -3,8 +3,8 @@ use mathlib.Core.Path.{ap}
 use mathlib.Core.Bool.{not}
 use Rattle.refusal.proofs.Testing.{failed, passed}
 use borrow.Author.Needs.{needs}
-use Rattle.batch.proofs.charts.is_new_element.Statement.{statement}
-use Rattle.batch.proofs.charts.is_new_element.Tie as tie
+use Rattle.controls.proofs.elements.is_new_element.Statement.{statement}
+use Rattle.controls.proofs.elements.is_new_element.Tie as tie
 
 is-element-requires : tie.Need-is-element-requires
 is-element-requires c κs = search needs

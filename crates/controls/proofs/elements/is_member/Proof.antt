@@ -2,11 +2,11 @@
 use mathlib.Core.Path.{_≡_, refl, sym, _∙_}
 use Prim.Native.Nat.{_-_, _≤_}
 use lib.ListN.{length, drop}
-use Rattle.batch.specs.Batches.{member}
-use Rattle.batch.proofs.ElementLaws.{member-found, member-next, member-none}
+use Rattle.controls.specs.Controls.{member}
+use Rattle.controls.proofs.ElementLaws.{member-found, member-next, member-none}
 use borrow.Author.Needs.{needs}
-use Rattle.batch.proofs.charts.is_member.Statement.{statement}
-use Rattle.batch.proofs.charts.is_member.Tie as tie
+use Rattle.controls.proofs.elements.is_member.Statement.{statement}
+use Rattle.controls.proofs.elements.is_member.Tie as tie
 
 abbrev Inv-loop : tie.InvT-loop
 Inv-loop element used i₀ i = (i ≤ length used) × (member element used ≡ member element (drop i used))

@@ -10,7 +10,7 @@ use Rattle.refusal.specs.Outcome.{Outcome}
 use Rattle.refusal.specs.Outcome.Outcome.{refused}
 use Rattle.refusal.specs.Numbers.{numberOf}
 use Rattle.refusal.specs.declared.Refusal.the-variants as refusal
-use Rattle.batch.specs.FromFront.{Read, taken, then, many, section}
+use Rattle.words.specs.FromFront.{Read, taken, then, many, section}
 
 module _ {A B : Type 0} {x : Read A} (next : A → List ℕ → Outcome B) where
   pub then-taken : {a : A} {rest : List ℕ} → x ≡ taken a rest → then x next ≡ next a rest

@@ -3,18 +3,18 @@ use Prim.Native.Nat.{_<_}
 use native.Mathlib.Omega.{arith}
 use denote.Ref.{now}
 use lib.ListN.{getD}
-use Rattle.batch.specs.Batches.{mostCharts}
-use Rattle.batch.proofs.ManyLaws.{section-short, section-over}
-use Rattle.batch.proofs.ChartLaws.{chartAfter, said-refused}
+use Rattle.controls.specs.Controls.{mostCharts}
+use Rattle.words.proofs.ManyLaws.{section-short, section-over}
+use Rattle.controls.proofs.ColumnLaws.{chartAfter, answer-refused}
 use borrow.Author.Needs.{needs}
-use Rattle.batch.proofs.charts.read.Statement.{statement}
-use Rattle.batch.proofs.charts.read.Tie as tie
+use Rattle.controls.proofs.read.Statement.{statement}
+use Rattle.controls.proofs.read.Tie as tie
 
 refused-requires : tie.Need-refused-requires
 refused-requires c κs = search needs
 
 returns : tie.Need-returns
-returns c = said-refused _ (c .refused .result) (c .refused .ensures) (section-short chartAfter mostCharts _ (c .before .if1 .taken))
+returns c = answer-refused _ (c .refused .result) (c .refused .ensures) (section-short chartAfter mostCharts _ (c .before .if1 .taken))
 
 shared-slice-read-wide : tie.Need-shared-slice-read-wide
 shared-slice-read-wide c = search needs
@@ -30,7 +30,7 @@ returns-2 c =
     let above = c .before in
     let s = now (above .before .before .before .before .before .args .words) in
     let h : mostCharts < getD s 0 0 = omega (arith, above .before .wide .ensures, above .if2 .taken) in
-    said-refused s (c .refused2 .result) (c .refused2 .ensures) (section-over chartAfter mostCharts s (above .before .before .before .if1 .left) h)
+    answer-refused s (c .refused2 .result) (c .refused2 .ensures) (section-over chartAfter mostCharts s (above .before .before .before .if1 .left) h)
 
 read-all-requires : tie.Need-read-all-requires
 read-all-requires c κs = search needs

@@ -1,10 +1,10 @@
 -- Each return is what the definition gives by the tests on the way; past them it is what reading the values gave.
 use denote.Ref.{now}
 use Rattle.refusal.proofs.Testing.{failed, passed}
-use Rattle.batch.proofs.ChartLaws.{chart-short, chart-not-new, chart-not-fit, chart-values}
+use Rattle.controls.proofs.ChartLaws.{chart-short, chart-not-new, chart-not-fit, chart-values}
 use borrow.Author.Needs.{needs}
-use Rattle.batch.proofs.charts.read_one.Statement.{statement}
-use Rattle.batch.proofs.charts.read_one.Tie as tie
+use Rattle.controls.proofs.first.read_one.Statement.{statement}
+use Rattle.controls.proofs.first.read_one.Tie as tie
 
 returns : tie.Need-returns
 returns c = chart-short _ _ (c .if1 .taken)

@@ -4,11 +4,11 @@ use Prim.Native.Nat.{_-_, _≤_}
 use native.Mathlib.Omega.{arith}
 use denote.Ref.{now}
 use lib.ListN.{length, length-set}
-use Rattle.batch.specs.Batches.{mostCharts}
-use Rattle.batch.proofs.ChartLaws.{Begun, charts-begun, charts-refused, charts-next, charts-ended, said-refused}
+use Rattle.controls.specs.Controls.{mostCharts}
+use Rattle.controls.proofs.ColumnLaws.{Begun, charts-begun, charts-refused, charts-next, answer-whole, answer-refused}
 use borrow.Author.Needs.{needs}
-use Rattle.batch.proofs.charts.read_all.Statement.{statement}
-use Rattle.batch.proofs.charts.read_all.Tie as tie
+use Rattle.controls.proofs.charts.read_all.Statement.{statement}
+use Rattle.controls.proofs.charts.read_all.Tie as tie
 
 abbrev Inv-loop : tie.InvT-loop
 Inv-loop words count elements₀ signals₀ at₀ i₀ elements signals at i =
@@ -101,13 +101,13 @@ returns c =
     let test = turn .before .before .before .before in
     let loop = test .before .loop in
     let words = now (test .before .before .before .args .words) in
-    said-refused words (c .refused .result) (c .refused .ensures)
+    answer-refused words (c .refused .result) (c .refused .ensures)
     (charts-refused words _ _ (loop .at) _ _ (loop .inv .5) (test .loop-test .taken) (turn .read-one .ensures) (c .before .before .why .given .1))
 
 returns-2 : tie.Need-returns-2 Inv-loop μ-loop
 returns-2 c =
     let inv = c .before .loop .inv in
-    charts-ended _ _ _ _ _ _ (inv .5) (omega (arith, inv .0, c .loop-test .left)) (inv .2) (omega (arith, inv .1, inv .3)) (omega (arith, inv .1, inv .4))
+    answer-whole _ _ _ _ _ _ (inv .5) (omega (arith, inv .0, c .loop-test .left)) (inv .2)
 
 pub read-all-spec : {M : Type 1} → statement M
 read-all-spec =

@@ -2,12 +2,12 @@
 use native.Mathlib.Omega.{arith}
 use denote.Ref.{now}
 use lib.ListN.{length-drop}
-use Rattle.batch.specs.Batches.{headWords}
+use Rattle.controls.specs.Controls.{headWords}
 use Rattle.chart.proofs.Laws.{counts-most}
-use Rattle.batch.proofs.ChartLaws.{values-short, values-taken, values-refused}
+use Rattle.controls.proofs.ChartLaws.{values-short, values-taken, values-refused}
 use borrow.Author.Needs.{needs}
-use Rattle.batch.proofs.charts.read_values.Statement.{statement}
-use Rattle.batch.proofs.charts.read_values.Tie as tie
+use Rattle.controls.proofs.first.read_values.Statement.{statement}
+use Rattle.controls.proofs.first.read_values.Tie as tie
 
 add-middle : tie.Need-add-middle
 add-middle c = let h = counts-most _ _ (c .before .pre .1) in record { fits = omega (arith, h .0) }
