@@ -1,5 +1,5 @@
-// Two records field by field. A tenth of the larger is cut to a whole number, which changes nothing for a difference that is one, and
-// no product can be too large.
+// Two records field by field. A difference is a whole number, so a tenth of the larger may be cut to one: then no product is
+// made that could be too large.
 use record::Analyte;
 use record::IONS;
 use record::READINGS;

@@ -30,8 +30,8 @@ setupOf values = record { n = length values; S = sumOf values; Q = squaresOf val
 abbrev pub NeverNegative : Type 0
 NeverNegative = (values : List ℕ) → square (setupOf values .S) ≤ setupOf values .n * setupOf values .Q
 
--- 'a value v is beyond k deviations when (n×v − S)² × (n − 1) is greater than k² × n × (n×Q − S²)'. (The square of a difference is that of it with its sign
--- dropped)
+-- 'a value v is beyond k deviations when (n×v − S)² × (n − 1) is greater than k² × n × (n×Q − S²)'.
+-- (The square of a difference is that of it with its sign dropped)
 unfoldable pub beyond : SetupTerms → ℕ → ℕ → Bool
 beyond f k v = ltb (square k * f .n * (f .n * f .Q - square (f .S))) (square (apart (f .n * v) (f .S)) * (f .n - 1))
 
