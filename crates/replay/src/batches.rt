@@ -44,7 +44,7 @@ fn byte_of(word: u32, place: usize) -> u8 {
 }
 
 // The bytes of the words, least byte first.
-fn unpack(words: &[u32], bytes: &mut [u8])
+fn put_bytes(words: &[u32], bytes: &mut [u8])
     requires { ⌜ length (now bytes) ≤ 4 * length (now words) ⌝ }
 {
     let mut i: usize = 0;
@@ -69,7 +69,7 @@ fn list_of(room: u32, count: u32, words: &[u32]) -> bool {
     let mut space = [0u8; MOST_BYTES];
     // Their starts are written out, since the check then knows their lengths.
     let bytes = &mut space[0..n];
-    unpack(words, bytes);
+    put_bytes(words, bytes);
     let mut text_space = [OLD_BYTE; MOST_TEXT];
     let text = &mut text_space[0..lent];
     let answer = listing::list(bytes, text);

@@ -4,8 +4,8 @@ use Prim.Native.Nat.{_-_, _≤_}
 use native.Mathlib.Omega.{arith}
 use lib.ListN.{length, length-set}
 use borrow.Author.Needs.{needs}
-use Rattle.replay.proofs.batches.unpack.Statement.{statement}
-use Rattle.replay.proofs.batches.unpack.Tie as tie
+use Rattle.replay.proofs.batches.put_bytes.Statement.{statement}
+use Rattle.replay.proofs.batches.put_bytes.Tie as tie
 
 abbrev Inv-loop : tie.InvT-loop
 Inv-loop words bytes₀ i₀ bytes i = (i ≤ length bytes) × (length bytes ≡ length bytes₀)
@@ -43,8 +43,8 @@ same-length c = search needs
 returns : tie.Need-returns Inv-loop μ-loop
 returns c = search needs
 
-pub unpack-spec : {M : Type 1} → statement M
-unpack-spec =
+pub put-bytes-spec : {M : Type 1} → statement M
+put-bytes-spec =
     tie.close
     (tie.spec
     Inv-loop
