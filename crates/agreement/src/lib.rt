@@ -16,7 +16,7 @@ pub enum Agreement {
     Refused(Refusal),
 }
 
-// Of two slices. The first record is refused before the second.
+// Whether two slices are records that agree. The first is refused before the second.
 pub fn agree(first: &[u32], second: &[u32]) -> Agreement
     ensures { λ r. ⌜ agreementOutcome r ≡ agreementOf (now (first .entry)) (now (second .entry)) ⌝ }
 {
@@ -25,7 +25,7 @@ pub fn agree(first: &[u32], second: &[u32]) -> Agreement
     compare(one, other)
 }
 
-// Of two records by how their own tests ended.
+// Whether two records agree, by how their own tests ended and the fields that these hand on. It takes any fields.
 pub fn compare(one: TestedRecord, other: TestedRecord) -> Agreement
     ensures { λ r. ⌜ agreementOutcome r ≡ comparedOf (fieldsOutcome one) (fieldsOutcome other) ⌝ }
 {
