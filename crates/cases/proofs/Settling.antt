@@ -15,13 +15,13 @@ use Rattle.reading.specs.Ranges.{inRange, isValue}
 use Rattle.reading.specs.Readings.{missingFrom, measuredFrom, readingOf}
 use Rattle.reading.specs.Amounts.{Amount, nearest, valueMass, valueAmount}
 use Rattle.record.specs.Record.{phOf, conductivityOf, alkalinityOf, readAt, readingAt, massOf, massAt, allBelow, accepted, acceptedRest}
-use Rattle.judge.specs.Ions.{cationFactor, anionFactor, conductance, sum}
+use Rattle.solution.specs.Ions.{cationFactor, anionFactor, conductance, sum}
 use Rattle.judge.specs.Choices.{Ranges}
 use Rattle.judge.specs.Verdicts.{applied}
 use Rattle.judge.specs.Corners.{decided, passesOf}
-use Rattle.judge.specs.Ranges.{isWhole, ionsKnown}
+use Rattle.solution.specs.Solutions.{isWhole, ionsKnown, measuredOf}
 use Rattle.judge.specs.IonBalance.{balanceApplies, balanceAppliesTo, balanceLimit, balanceCheck}
-use Rattle.judge.specs.Conductivity.{conductivityLimit, conductivityCheck, measuredOf}
+use Rattle.judge.specs.Conductivity.{conductivityLimit, conductivityCheck}
 use Rattle.judge.specs.Judgements.{verdictsOf, judgementOf}
 use Rattle.record.proofs.AcceptedLaws.{Valid, accepted-given}
 use Rattle.judge.proofs.Laws.{valid-judged}

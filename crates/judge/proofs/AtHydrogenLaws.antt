@@ -9,10 +9,9 @@ use lib.IntN.{ℤ, pos, subℕ}
 use borrow.Author.Tests.{eqb-true, eqb-false}
 use Rattle.hydrogen.specs.Floors.{floorAt}
 use Rattle.hydrogen.specs.TrueHydrogen.{HAtMost, HAtLeast, FractionLe, Ordered, HydrogenAt}
-use Rattle.judge.specs.Choices.{gap}
+use Rattle.solution.specs.Solutions.{gap, isWhole}
 use Rattle.judge.specs.AtHydrogen.{AtH}
 use Rattle.judge.specs.Corners.{partAt, Check, passesOf}
-use Rattle.judge.specs.Ranges.{isWhole}
 use Rattle.judge.proofs.Mixing.{points}
 use Rattle.judge.proofs.Deciding.{Decided, deciding}
 use Rattle.judge.proofs.CornerLaws.{Sound}

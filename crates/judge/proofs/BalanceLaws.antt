@@ -7,8 +7,8 @@ use native.Mathlib.Nat.{mul-one, zero-add, mul-le-mul, le-of-lt}
 use native.Mathlib.Omega.{arith}
 use lib.Dec.{leb}
 use Rattle.hydrogen.proofs.Laws.{difference-times}
-use Rattle.judge.specs.Ions.{cationFactor, anionFactor, cationCharge, anionCharge, alkalinityCharge, sum}
 use Rattle.record.specs.Record.{readings}
+use Rattle.solution.specs.Ions.{cationFactor, anionFactor, cationCharge, anionCharge, alkalinityCharge, sum}
 use Rattle.judge.specs.Choices.{Ranges, Choice, Among}
 use Rattle.judge.specs.Verdicts.{Judged}
 use Rattle.judge.specs.Corners.{Passes, passesOf}

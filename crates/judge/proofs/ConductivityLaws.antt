@@ -7,12 +7,13 @@ use native.Mathlib.Nat.{add-zero}
 use native.Mathlib.Omega.{arith}
 use lib.Dec.{leb}
 use Rattle.hydrogen.proofs.Laws.{difference-times}
-use Rattle.judge.specs.Ions.{conducted, sum}
 use Rattle.record.specs.Record.{readings}
+use Rattle.solution.specs.Ions.{conducted, sum}
+use Rattle.solution.specs.Solutions.{alkalinityConducts}
 use Rattle.judge.specs.Choices.{Ranges, Choice, Among}
 use Rattle.judge.specs.Verdicts.{Judged}
 use Rattle.judge.specs.Corners.{partOf, Passes, passesOf}
-use Rattle.judge.specs.Conductivity.{conductivityLimit, alkalinityConducts, Conducting, conductivityCheck, conductivityBounds}
+use Rattle.judge.specs.Conductivity.{conductivityLimit, Conducting, conductivityCheck, conductivityBounds}
 use Rattle.judge.proofs.Judging.{judged-as}
 use Rattle.judge.proofs.CornerLaws.{Sound, passes-judged}
 use Rattle.judge.proofs.BoundLaws.{boundsOf}

@@ -5,7 +5,8 @@ use Prim.Native.Nat.{ℕ, _+_, _*_, _≤_, _<_}
 use native.Mathlib.Nat.{mul-le-mul-left, le-refl, le-of-eq, not-le-of-lt}
 use native.Mathlib.Decide.{decLe}
 use native.Mathlib.Omega.{arith}
-use Rattle.judge.specs.Choices.{Ranges, Choice, Among, gap}
+use Rattle.solution.specs.Solutions.{gap}
+use Rattle.judge.specs.Choices.{Ranges, Choice, Among}
 use Rattle.judge.specs.Verdicts.{Judged}
 use Rattle.judge.specs.Verdicts.Judged.{every, none, mixed}
 use Rattle.judge.specs.Corners.{partOf, partAt, Check, firstOf, Passes, passesOf}

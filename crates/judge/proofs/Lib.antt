@@ -1,8 +1,4 @@
 -- The laws behind this crate's contracts. Other crates cite `Laws`, and nothing else of it.
-mod Columns
-mod SumLaws
-mod IonLaws
-mod AnalyteLaws
 mod Crossing
 mod Mixing
 mod Deciding
@@ -18,9 +14,9 @@ mod BalanceLaws
 mod ConductivityLaws
 mod PointLaws
 mod Applying
+mod CheckWays
 mod RatioProofs
 mod TruthProofs
-mod CheckInputs
 mod JudgeLaws
 mod MostLaws
 pub mod Laws

@@ -4,7 +4,8 @@ use mathlib.Core.Bool.{Bool, true, false}
 use Prim.Native.Nat.{ℕ, _+_, _-_, _*_, _≤_, _<_}
 use native.Mathlib.Nat.{add-mul, mul-le-mul-left, mul-le-mul-right, mul-pos, le-refl}
 use native.Mathlib.Omega.{arith}
-use Rattle.judge.specs.Choices.{Ranges, Choice, Hydrogen, Among, gap}
+use Rattle.solution.specs.Solutions.{gap}
+use Rattle.judge.specs.Choices.{Ranges, Choice, Hydrogen, Among}
 
 -- hydrogen is from e above h to e below h + e, e the gap
 pub hydrogen-low : (b : Bool) (h n d : ℕ) → Hydrogen b h n d → h * d + gap b ≤ n

@@ -4,7 +4,7 @@ use mathlib.Core.Bool.{Bool, true, false}
 use Prim.Native.Nat.{ℕ, _+_, _*_, _≤_, _<_}
 use native.Mathlib.Nat.{mul-le-mul-left, mul-le-mul-right, mul-pos, le-of-mul-le-mul-left}
 use native.Mathlib.Omega.{arith}
-use Rattle.judge.specs.Choices.{gap}
+use Rattle.solution.specs.Solutions.{gap}
 
 -- sums X and Y, d times, between the corners. A u of hydrogen adds q to X
 pub record Between (b : Bool) (q x₀ x₁ y₀ y₁ d X Y : ℕ) : Type 0 where

@@ -6,7 +6,7 @@ use native.Mathlib.Omega.{arith}
 use Rattle.record.specs.Record.{readings}
 use Rattle.judge.specs.Choices.{Ranges, Choice, Among}
 use Rattle.judge.specs.Corners.{Part, partOf, partAt}
-use Rattle.judge.proofs.SumLaws.{sum-over, sum-under, sum-times, sum-mix, sum-same}
+use Rattle.solution.proofs.SumLaws.{sum-over, sum-under, sum-times, sum-mix, sum-same}
 use Rattle.judge.proofs.Mixing.{mix, at}
 
 module _ (p : Part) where

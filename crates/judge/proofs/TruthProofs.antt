@@ -11,13 +11,14 @@ use Rattle.hydrogen.specs.Floors.{leastPh, greatestPh, floorAt}
 use Rattle.hydrogen.specs.TrueHydrogen.{HydrogenAt}
 use Rattle.hydrogen.proofs.Laws.{hydrogen-at}
 use Rattle.record.specs.Record.{phOf, conductivityOf, alkalinityOf, massAt}
+use Rattle.solution.specs.Solutions.{isWhole, ionsKnown, measuredOf}
 use Rattle.judge.specs.Choices.{Choice, Among}
 use Rattle.judge.specs.AtHydrogen.{AtH}
 use Rattle.judge.specs.Verdicts.{Judged, applied}
 use Rattle.judge.specs.Corners.{Check, Passes, passesOf}
-use Rattle.judge.specs.Ranges.{isWhole, rangesOf, ionsKnown}
+use Rattle.judge.specs.Ranges.{rangesOf}
 use Rattle.judge.specs.IonBalance.{balanceAppliesTo, balanceLimit, balanceCheck}
-use Rattle.judge.specs.Conductivity.{conductivityLimit, measuredOf, conductivityCheck}
+use Rattle.judge.specs.Conductivity.{conductivityLimit, conductivityCheck}
 use Rattle.judge.specs.Judgements.{verdictsOf}
 use Rattle.judge.specs.Truth.{Occurs, HydrogenTruth, Truth}
 use Rattle.judge.proofs.Mixing.{points}

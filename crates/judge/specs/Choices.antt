@@ -2,7 +2,7 @@
 -- At a pH that is no multiple of 100 hydrogen is every fraction strictly between h and h + 1; elsewhere it is h. Each amount lies
 -- between a least and a greatest one, which are the same for a record of today.
 use mathlib.Core.Path.{_≡_}
-use mathlib.Core.Bool.{Bool, true, false, cond}
+use mathlib.Core.Bool.{Bool, true, false}
 use Prim.Native.Nat.{ℕ, _+_, _*_, _≤_, _<_}
 
 pub record Ranges : Type 0 where
@@ -29,7 +29,3 @@ pub record Among (r : Ranges) (c : Choice) : Type 0 where
   pub over : (i : ℕ) → r .least i * c .divisor ≤ c .amount i
   pub under : (i : ℕ) → c .amount i ≤ r .greatest i * c .divisor
   pub hydrogen : Hydrogen (r .whole) (r .floor) (c .hydrogen) (c .divisor)
-
--- how far hydrogen may be above its floor: 0 where it is its floor, else up to 1
-abbrev pub gap : Bool → ℕ
-gap whole = cond whole 0 1

@@ -4,28 +4,22 @@ use mathlib.Core.List.{List}
 use Prim.Native.Nat.{ℕ, _+_, _-_, _*_, _^_, _≤_}
 use lib.Dec.{leb}
 use lib.IntN.{subℕ}
+use Rattle.solution.specs.Ions.{conducted, hydrogenConductance, alkalinityCharge, alkalinityConductance, sum}
+use Rattle.solution.specs.Solutions.{ionsKnown, alkalinityConducts, othersConduct, measuredOf}
 use Rattle.judge.specs.declared.window.Window.{Window}
 use Rattle.record.specs.Record.{conductivityOf, alkalinityOf, readings, massAt}
-use Rattle.judge.specs.Ions.{conducted, hydrogenConductance, alkalinityCharge, alkalinityConductance, sum}
 use Rattle.judge.specs.Choices.{Choice}
 use Rattle.judge.specs.Verdicts.{applied}
 use Rattle.judge.specs.AtHydrogen.{Bounds}
 use Rattle.judge.specs.Corners.{Check, passesOf}
 use Rattle.refusal.specs.Differences.{apart}
-use Rattle.judge.specs.Ranges.{rangesOf, ionsKnown}
+use Rattle.judge.specs.Ranges.{rangesOf}
 
 -- 'M is 30 up to 10.0, 20 up to 20.0, 10 above', by tenths of µS/cm
 unfoldable pub conductivityLimit : ℕ → ℕ
 conductivityLimit measured = cond (leb measured 100) 30 (cond (leb measured 200) 20 10)
 
--- 'CM the measured value', in 10^−13 µS/cm
-abbrev pub measuredOf : ℕ → ℕ
-measuredOf measured = measured * 10 ^ 12
-
--- 'CE is the sum over all ten rows': alkalinity t, and of a choice, divisor times
-abbrev pub alkalinityConducts : ℕ → ℕ
-alkalinityConducts t = alkalinityConductance * alkalinityCharge t
-
+-- 'CE is the sum over all ten rows': with alkalinity t, of a choice, divisor times
 abbrev pub calculated : ℕ → Choice → ℕ
 calculated t c = hydrogenConductance * c .hydrogen + (alkalinityConducts t * c .divisor + sum (λ i. conducted i * c .amount i) readings)
 
@@ -64,5 +58,4 @@ conductivityBounds M E CM =
 
 abbrev pub conductivityBoundsOf : List ℕ → Bounds
 conductivityBoundsOf s =
-    conductivityBounds (conductivityLimit (conductivityOf s))
-    (alkalinityConducts (alkalinityOf s) + sum (λ i. conducted i * massAt s i) readings) (measuredOf (conductivityOf s))
+    conductivityBounds (conductivityLimit (conductivityOf s)) (othersConduct s) (measuredOf (conductivityOf s))

@@ -3,10 +3,11 @@
 use mathlib.Core.Bool.{Bool, cond}
 use Prim.Native.Nat.{ℕ, _+_, _*_, _≤_}
 use lib.Dec.{ltb}
+use Rattle.solution.specs.Ions.{sum}
+use Rattle.solution.specs.Solutions.{gap}
 use Rattle.judge.specs.declared.window.Window.{Window}
 use Rattle.record.specs.Record.{readings}
-use Rattle.judge.specs.Ions.{sum}
-use Rattle.judge.specs.Choices.{Ranges, Choice, gap}
+use Rattle.judge.specs.Choices.{Ranges, Choice}
 
 -- a sum: what is fixed, and the weight of each reading's amount
 pub record Part : Type 0 where
@@ -36,18 +37,18 @@ pub record Passes (k : Check) (c : Choice) : Type 0 where
   pub high : k .window .high .denominator * firstOf k c ≤ k .window .high .numerator * partOf (k .second) c
   pub low : k .window .low .numerator * partOf (k .second) c ≤ k .window .low .denominator * firstOf k c
 
--- a x is above b y, or with e above 0 at least that
+-- a / b is above c / d, or with e above 0 at least that
 abbrev pub above : ℕ → ℕ → ℕ → ℕ → ℕ → Bool
-above a x b y e = ltb (b * y) (a * x + e)
+above a b c d e = ltb (c * b) (d * a + e)
 
--- first sums from x₀ to x₁, second sums from y₀ to y₁. With e above 0 the ends of the first are not reached.
--- 2 where even the best corner fails one side of the window, 3 where the worst corner fails one, else 1
+-- first sums from x₀ to x₁, second sums from y₀ to y₁: ratios from x₀ / y₁ to x₁ / y₀. With e above 0 the ends are not reached.
+-- 2 where even the best ratio fails one side of the window, 3 where the worst fails one, else 1
 unfoldable pub decided : Window → ℕ → ℕ → ℕ → ℕ → ℕ → ℕ
 decided w e x₀ x₁ y₀ y₁ =
-    cond (above (w .high .denominator) x₀ (w .high .numerator) y₁ e) 2
-    (cond (above (w .low .numerator) y₀ (w .low .denominator) x₁ e) 2
-    (cond (above (w .high .denominator) x₁ (w .high .numerator) y₀ 0) 3
-    (cond (above (w .low .numerator) y₁ (w .low .denominator) x₀ 0) 3
+    cond (above x₀ y₁ (w .high .numerator) (w .high .denominator) e) 2
+    (cond (above (w .low .numerator) (w .low .denominator) x₁ y₀ e) 2
+    (cond (above x₁ y₀ (w .high .numerator) (w .high .denominator) 0) 3
+    (cond (above (w .low .numerator) (w .low .denominator) x₀ y₁ 0) 3
     1)))
 
 abbrev pub passesOf : Check → Ranges → ℕ

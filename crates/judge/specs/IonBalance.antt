@@ -5,14 +5,15 @@ use Prim.Native.Nat.{ℕ, _+_, _-_, _*_, _≤_}
 use lib.Dec.{leb, ltb, eqb}
 use lib.IntN.{subℕ}
 use Rattle.refusal.specs.Differences.{apart}
+use Rattle.solution.specs.Ions.{cationCharge, anionCharge, alkalinityCharge, sum}
+use Rattle.solution.specs.Solutions.{ionsKnown, otherCations, anionsOf}
 use Rattle.judge.specs.declared.window.Window.{Window}
-use Rattle.record.specs.Record.{kindOf, conductivityOf, alkalinityOf, readings, readingAt, present, massAt}
-use Rattle.judge.specs.Ions.{organicCarbon, cationCharge, anionCharge, alkalinityCharge, sum}
+use Rattle.record.specs.Record.{kindOf, conductivityOf, alkalinityOf, readings, readingAt, present, massAt, organicCarbon}
 use Rattle.judge.specs.Choices.{Choice}
 use Rattle.judge.specs.Verdicts.{applied}
 use Rattle.judge.specs.AtHydrogen.{Bounds}
 use Rattle.judge.specs.Corners.{Check, passesOf}
-use Rattle.judge.specs.Ranges.{rangesOf, ionsKnown}
+use Rattle.judge.specs.Ranges.{rangesOf}
 
 -- 'kinds 1 and 2, and kind 5 with DOC present and below 5,000 µg/L'
 unfoldable pub balanceApplies : ℕ → Bool → ℕ → Bool
@@ -66,5 +67,4 @@ balanceBounds L C A =
 
 abbrev pub balanceBoundsOf : List ℕ → Bounds
 balanceBoundsOf s =
-    balanceBounds (balanceLimit (conductivityOf s))
-    (sum (λ i. cationCharge i * massAt s i) readings) (alkalinityCharge (alkalinityOf s) + sum (λ i. anionCharge i * massAt s i) readings)
+    balanceBounds (balanceLimit (conductivityOf s)) (otherCations s) (anionsOf s)

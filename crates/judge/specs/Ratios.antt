@@ -3,9 +3,10 @@ use mathlib.Core.Bool.{Bool, cond}
 use mathlib.Core.List.{List}
 use Prim.Native.Nat.{ℕ, _+_, _*_}
 use lib.Dec.{leb, eqb}
+use Rattle.solution.specs.Ions.{cationCharge, anionCharge}
+use Rattle.solution.specs.Solutions.{sodiumCharge, chlorideCharge}
 use Rattle.judge.specs.declared.window.Window.{Window}
-use Rattle.record.specs.Record.{kindOf, readingAt, present, massAt}
-use Rattle.judge.specs.Ions.{ammonium, sodium, nitrate, chloride, totalNitrogen, cationCharge, anionCharge}
+use Rattle.record.specs.Record.{kindOf, readingAt, present, massAt, ammonium, sodium, nitrate, chloride, totalNitrogen}
 use Rattle.judge.specs.Corners.{decided}
 
 -- 'the ratio of charges is from 0.5 to 1.5, ends included'
@@ -21,12 +22,6 @@ sodiumChlorideBy kind hasChloride chlorideMass hasSodium na cl =
     (cond hasSodium (decided sodiumChlorideWindow 0 na na cl cl) 4))
     4)
     0
-
-abbrev pub sodiumCharge : List ℕ → ℕ
-sodiumCharge s = cationCharge sodium * massAt s sodium
-
-abbrev pub chlorideCharge : List ℕ → ℕ
-chlorideCharge s = anionCharge chloride * massAt s chloride
 
 abbrev pub sodiumChlorideOf : List ℕ → ℕ
 sodiumChlorideOf s =

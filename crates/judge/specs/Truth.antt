@@ -6,15 +6,15 @@ use mathlib.Core.Logic.{_↔_}
 use Prim.Native.Nat.{ℕ, _*_, _≤_, _<_}
 use lib.Dec.{leb, eqb}
 use Rattle.hydrogen.specs.Floors.{WholePh}
-use Rattle.record.specs.Record.{phOf, conductivityOf, alkalinityOf, kindOf, readingAt, present, massAt}
-use Rattle.judge.specs.Ions.{ammonium, sodium, nitrate, chloride, totalNitrogen}
+use Rattle.record.specs.Record.{phOf, conductivityOf, alkalinityOf, kindOf, readingAt, present, massAt, ammonium, sodium, nitrate, chloride, totalNitrogen}
+use Rattle.solution.specs.Solutions.{ionsKnown, measuredOf, sodiumCharge, chlorideCharge}
 use Rattle.judge.specs.Choices.{Choice, Among}
 use Rattle.judge.specs.Verdicts.{Judged}
 use Rattle.judge.specs.AtHydrogen.{Bounds, AtH, AtFraction}
-use Rattle.judge.specs.Ranges.{rangesOf, ionsKnown}
+use Rattle.judge.specs.Ranges.{rangesOf}
 use Rattle.judge.specs.IonBalance.{balanceAppliesTo, balanceLimit, Balanced, balanceBoundsOf}
-use Rattle.judge.specs.Conductivity.{conductivityLimit, measuredOf, Conducting, conductivityBoundsOf}
-use Rattle.judge.specs.Ratios.{sodiumCharge, chlorideCharge, mineralNitrogen}
+use Rattle.judge.specs.Conductivity.{conductivityLimit, Conducting, conductivityBoundsOf}
+use Rattle.judge.specs.Ratios.{mineralNitrogen}
 use Rattle.judge.specs.Judgements.{Four}
 
 -- the record's amounts with hydrogen n / d

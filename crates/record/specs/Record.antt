@@ -35,6 +35,13 @@ conductivityOf s = getD s 3 0
 abbrev pub alkalinityOf : List ℕ → ℕ
 alkalinityOf s = getD s 4 0
 
+-- the greatest of each
+abbrev pub mostConductivity : ℕ
+mostConductivity = 100_000
+
+abbrev pub mostAlkalinity : ℕ
+mostAlkalinity = 200_000
+
 -- what refusal 12 compares: 'number or kind differs'
 abbrev pub sameSample : List ℕ → List ℕ → Bool
 sameSample s t = eqb (sampleNumber s) (sampleNumber t) && eqb (kindOf s) (kindOf t)
@@ -50,6 +57,26 @@ readings = 10
 -- 'the eight ions' are the first eight
 abbrev pub ions : ℕ
 ions = 8
+
+-- the places of readings that a rule names, in the order 'NH4-N, Ca, Mg, Na, K, SO4-S, NO3-N, Cl, total nitrogen (TN), dissolved
+-- organic carbon (DOC)'
+abbrev pub ammonium : ℕ
+ammonium = 0
+
+abbrev pub sodium : ℕ
+sodium = 3
+
+abbrev pub nitrate : ℕ
+nitrate = 6
+
+abbrev pub chloride : ℕ
+chloride = 7
+
+abbrev pub totalNitrogen : ℕ
+totalNitrogen = 8
+
+abbrev pub organicCarbon : ℕ
+organicCarbon = 9
 
 unfoldable pub readAt : List ℕ → ℕ → Outcome Reading
 readAt s i = readingOf (getD s (5 + 2 * i) 0) (getD s (5 + 2 * i + 1) 0)
@@ -68,8 +95,8 @@ areReadings s = allBelow (λ i. isGiven (readAt s i)) readings
 -- what is answered to a record that its own tests accept, else the number of the first that refuses it: tests 5 to 7, and all seven
 unfoldable pub acceptedRest : {A : Type 0} → List ℕ → Outcome A → Outcome A
 acceptedRest s rest =
-    demand (between 1 100_000 (conductivityOf s)) (numberOf refusal.Conductivity)
-    (demand (between 0 200_000 (alkalinityOf s)) (numberOf refusal.Alkalinity)
+    demand (between 1 mostConductivity (conductivityOf s)) (numberOf refusal.Conductivity)
+    (demand (between 0 mostAlkalinity (alkalinityOf s)) (numberOf refusal.Alkalinity)
     (demand (areReadings s) (numberOf refusal.Reading)
     rest))
 

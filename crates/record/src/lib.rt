@@ -26,11 +26,31 @@ pub const ALKALINITY: usize = 4;
 
 pub const FIRST_READING: usize = 5;
 
+// The greatest values of a record: conductivity in tenths of µS/cm, alkalinity in tenths of µeq/L, and an amount in µg/L.
+pub const MOST_CONDUCTIVITY: u32 = 100000;
+
+pub const MOST_ALKALINITY: u32 = 200000;
+
+pub const MOST_MASS: u64 = 200000;
+
 // Ten readings of two words.
 pub const READINGS: usize = 10;
 
 // The first eight of them are the ions.
 pub const IONS: usize = 8;
+
+// The places of readings that a rule names, in document 01's order: NH4-N, Ca, Mg, Na, K, SO4-S, NO3-N, Cl, TN, DOC.
+pub const AMMONIUM: usize = 0;
+
+pub const SODIUM: usize = 3;
+
+pub const NITRATE: usize = 6;
+
+pub const CHLORIDE: usize = 7;
+
+pub const TOTAL_NITROGEN: usize = 8;
+
+pub const ORGANIC_CARBON: usize = 9;
 
 // A reading of a record with its amount, 0 where it is missing.
 pub struct Analyte {

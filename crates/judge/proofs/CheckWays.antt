@@ -1,0 +1,84 @@
+-- The ways through each check, as the code goes them: its verdict by the answers to the tests on the way.
+use mathlib.Core.Path.{_≡_}
+use mathlib.Core.Bool.{true, false}
+use Prim.Native.Nat.{ℕ, _+_}
+use lib.Dec.{leb, eqb}
+use Rattle.record.specs.declared.Analyte.{Analyte}
+use Rattle.record.specs.Record.{present}
+use Rattle.solution.specs.Solutions.{Sums}
+use Rattle.judge.specs.Corners.{decided}
+use Rattle.judge.specs.IonBalance.{balanceApplies, balanceLimit, balanceWindow}
+use Rattle.judge.specs.Conductivity.{conductivityLimit, conductivityWindow}
+use Rattle.judge.specs.Ratios.{sodiumChlorideWindow, nitrogenWindow}
+use Rattle.judge.specs.Prepared.{balanceIn, conductivityIn, ratioIn, nitrogenIn}
+
+module _ (kind : ℕ) (carbon : Analyte) (measured : ℕ) (x : Sums) where
+  pub balance-not : balanceApplies kind (present (carbon .reading)) (carbon .mass .0) ≡ false → 0 ≡ balanceIn kind carbon measured x
+  unfolding balanceIn
+  balance-not a = rw a
+
+  module _ (a : balanceApplies kind (present (carbon .reading)) (carbon .mass .0) ≡ true) where
+    pub balance-missing : x .known ≡ false → 4 ≡ balanceIn kind carbon measured x
+    unfolding balanceIn
+    balance-missing k = rw (a, k)
+
+    pub balance-decided : {v : ℕ} → x .known ≡ true → v ≡ decided (balanceWindow (balanceLimit measured)) (x .gap) (x .leastCations) (x .mostCations) (x .anions) (x .anions)
+        → v ≡ balanceIn kind carbon measured x
+    unfolding balanceIn
+    balance-decided k e = rw (a, k) e
+
+module _ (measured : ℕ) (x : Sums) where
+  pub conductivity-missing : x .known ≡ false → 4 ≡ conductivityIn measured x
+  unfolding conductivityIn
+  conductivity-missing k = rw k
+
+  pub conductivity-decided : {v : ℕ} → x .known ≡ true
+      → v ≡ decided (conductivityWindow (conductivityLimit measured)) (x .gap) (x .leastCalculated) (x .mostCalculated) (x .measured) (x .measured)
+      → v ≡ conductivityIn measured x
+  unfolding conductivityIn
+  conductivity-decided k e = rw k e
+
+module _ (kind : ℕ) (na cl : Analyte) (x : Sums) where
+  pub other-kind : leb kind 4 ≡ false → 0 ≡ ratioIn kind na cl x
+  unfolding ratioIn
+  other-kind k = rw k
+
+  module _ (k : leb kind 4 ≡ true) where
+    pub no-chloride : present (cl .reading) ≡ false → 4 ≡ ratioIn kind na cl x
+    unfolding ratioIn
+    no-chloride c = rw (k, c)
+
+    module _ (c : present (cl .reading) ≡ true) where
+      pub chloride-zero : eqb (cl .mass .0) 0 ≡ true → 0 ≡ ratioIn kind na cl x
+      unfolding ratioIn
+      chloride-zero z = rw (k, c, z)
+
+      module _ (z : eqb (cl .mass .0) 0 ≡ false) where
+        pub no-sodium : present (na .reading) ≡ false → 4 ≡ ratioIn kind na cl x
+        unfolding ratioIn
+        no-sodium n = rw (k, c, z, n)
+
+        pub ratio-decided : {v : ℕ} → present (na .reading) ≡ true → v ≡ decided sodiumChlorideWindow 0 (x .sodium) (x .sodium) (x .chloride) (x .chloride) → v ≡ ratioIn kind na cl x
+        unfolding ratioIn
+        ratio-decided n e = rw (k, c, z, n) e
+
+module _ (total nitrate ammonium : Analyte) where
+  pub no-total : present (total .reading) ≡ false → 0 ≡ nitrogenIn total nitrate ammonium
+  unfolding nitrogenIn
+  no-total t = rw t
+
+  module _ (t : present (total .reading) ≡ true) where
+    pub no-nitrate : present (nitrate .reading) ≡ false → 4 ≡ nitrogenIn total nitrate ammonium
+    unfolding nitrogenIn
+    no-nitrate n = rw (t, n)
+
+    module _ (n : present (nitrate .reading) ≡ true) where
+      pub no-ammonium : present (ammonium .reading) ≡ false → 4 ≡ nitrogenIn total nitrate ammonium
+      unfolding nitrogenIn
+      no-ammonium a = rw (t, n, a)
+
+      pub nitrogen-decided : {v : ℕ} → present (ammonium .reading) ≡ true
+          → v ≡ decided nitrogenWindow 0 (nitrate .mass .0 + ammonium .mass .0) (nitrate .mass .0 + ammonium .mass .0) (total .mass .0) (total .mass .0)
+          → v ≡ nitrogenIn total nitrate ammonium
+      unfolding nitrogenIn
+      nitrogen-decided a e = rw (t, n, a) e

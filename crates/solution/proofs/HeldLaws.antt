@@ -1,0 +1,52 @@
+-- What is held of a record by value gives the record's own amounts and sums.
+use mathlib.Core.Path.{_≡_, refl, ap, ap₂}
+use mathlib.Core.Bool.{true}
+use mathlib.Core.List.{List}
+use Prim.Native.Nat.{ℕ, zero, suc, _+_, _*_, _<_}
+use native.Mathlib.Omega.{arith}
+use lib.Dec.{leb}
+use borrow.Author.Tests.{le-leb, leb-true}
+use Rattle.record.specs.declared.Analyte.{Analyte}
+use Rattle.record.specs.Record.{ions, readings, readingAt, present, allBelow, massAt, mostMass}
+use Rattle.record.specs.declared.TestedRecord.{TestedRecord}
+use Rattle.record.specs.Tested.{Holds}
+use Rattle.record.proofs.AllBelow.{all-same, all-each, each-all}
+use Rattle.record.proofs.MassLaws.{mass-most}
+use Rattle.solution.specs.Ions.{sum}
+use Rattle.solution.specs.Solutions.{ionsKnown}
+use Rattle.solution.specs.Held.{thereAt, amountAt, areSmall, Small}
+
+-- what agrees below n has the same sum up to n
+weighed-same : (w a b : ℕ → ℕ) (n : ℕ) → ((i : ℕ) → i < n → a i ≡ b i) → sum (λ i. w i * a i) n ≡ sum (λ i. w i * b i) n
+unfolding sum
+weighed-same w a b zero h = refl
+weighed-same w a b (suc n) h = ap₂ (λ (x y : ℕ). x + y) (weighed-same w a b n (λ i l. h i (omega arith))) (ap (λ (x : ℕ). w n * x) (h n (omega arith)))
+
+module _ (s : List ℕ) (r : TestedRecord) (w : Holds s r) where
+  abbrev h : List Analyte
+  h = r .analytes
+
+  pub held-there : (i : ℕ) → i < readings → thereAt h i ≡ present (readingAt s i)
+  held-there i l = ap (λ (a : Analyte). present (a .reading)) (w .readings i l)
+
+  pub held-amount : (i : ℕ) → i < readings → amountAt h i ≡ massAt s i
+  held-amount i l = ap (λ (a : Analyte). a .mass .0) (w .readings i l)
+
+  pub held-small : Small h
+  held-small = record { most = λ i l. rw (held-amount i l) (mass-most (readingAt s i)) }
+
+  pub held-known : allBelow (thereAt h) ions ≡ ionsKnown s
+  held-known = all-same (thereAt h) (λ i. present (readingAt s i)) ions (λ i l. held-there i (omega arith))
+
+  -- a sum of what is held is that of the record
+  pub held-sum : (w : ℕ → ℕ) → sum (λ i. w i * amountAt h i) readings ≡ sum (λ i. w i * massAt s i) readings
+  held-sum w = weighed-same w (amountAt h) (massAt s) readings held-amount
+
+-- as one test
+pub small-are : (analytes : List Analyte) → Small analytes → areSmall analytes ≡ true
+unfolding areSmall
+small-are analytes h = each-all (λ i. leb (amountAt analytes i) mostMass) readings (λ i l. le-leb _ _ (h .most i l))
+
+pub are-small : (analytes : List Analyte) → areSmall analytes ≡ true → Small analytes
+unfolding areSmall
+are-small analytes t = record { most = λ i l. leb-true _ _ (all-each (λ i. leb (amountAt analytes i) mostMass) readings t i l) }

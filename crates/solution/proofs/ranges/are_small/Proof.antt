@@ -1,0 +1,61 @@
+-- Whether all amounts so far are small.
+use mathlib.Core.Path.{_≡_, sym, ap, _∙_}
+use mathlib.Core.Bool.{Bool, _&&_}
+use mathlib.Core.List.{List}
+use Prim.Native.Nat.{ℕ, _-_, _≤_}
+use native.Mathlib.Omega.{arith}
+use lib.Dec.{leb}
+use Rattle.record.specs.declared.Analyte.{Analyte}
+use Rattle.record.specs.Record.{readings, mostMass, allBelow}
+use Rattle.record.proofs.AllBelow.{all-none, all-next}
+use Rattle.solution.specs.Held.{amountAt, areSmall}
+use borrow.Author.Needs.{needs}
+use Rattle.solution.proofs.ranges.are_small.Statement.{statement}
+use Rattle.solution.proofs.ranges.are_small.Tie as tie
+
+abbrev small-at : List Analyte → ℕ → Bool
+small-at analytes i = leb (amountAt analytes i) mostMass
+
+abbrev Inv-loop : tie.InvT-loop
+Inv-loop analytes small₀ i₀ small i = (i ≤ readings) × (small ≡ allBelow (small-at analytes) i)
+
+abbrev μ-loop : tie.MeasureT-loop
+μ-loop analytes small₀ i₀ small i = readings - i
+
+loop-holds : tie.Need-loop-holds Inv-loop μ-loop
+loop-holds c = (search needs, sym (all-none _))
+
+mul-analyte : tie.Need-mul-analyte Inv-loop μ-loop
+mul-analyte c = search needs
+
+array-copy-out-analyte : tie.Need-array-copy-out-analyte Inv-loop μ-loop
+array-copy-out-analyte c = search needs
+
+add-i : tie.Need-add-i Inv-loop μ-loop
+add-i c = search needs
+
+loop-less : tie.Need-loop-less Inv-loop μ-loop
+loop-less c = search needs
+
+loop-again : tie.Need-loop-again Inv-loop μ-loop
+loop-again c = let at = c .before .before .before .loop in
+    let analytes = c .before .before .before .before .args .t1 in
+    (search needs, ap (λ (b : Bool). b && small-at analytes (at .i)) (at .inv .1) ∙ sym (all-next (small-at analytes) (at .i)))
+
+returns : tie.Need-returns Inv-loop μ-loop
+unfolding areSmall
+returns c = let e : c .before .loop .i ≡ readings = omega arith in c .before .loop .inv .1 ∙ ap (allBelow (small-at (c .before .before .args .t1))) e
+
+pub are-small-spec : {M : Type 1} → statement M
+are-small-spec =
+    tie.close
+    (tie.spec
+    Inv-loop
+    μ-loop
+    loop-holds
+    mul-analyte
+    array-copy-out-analyte
+    add-i
+    loop-less
+    loop-again
+    returns)

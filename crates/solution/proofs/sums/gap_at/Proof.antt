@@ -1,0 +1,14 @@
+-- By the one test.
+use native.Mathlib.Omega.{arith}
+use borrow.Author.Tests.{eq-eqb, ne-eqb}
+use Rattle.solution.proofs.sums.gap_at.Statement.{statement}
+use Rattle.solution.proofs.sums.gap_at.Tie as tie
+
+returns : tie.Need-returns
+returns c = (simp (eq-eqb _ _ (c .if1 .taken)), omega arith)
+
+returns-2 : tie.Need-returns-2
+returns-2 c = (simp (ne-eqb _ _ (c .if1 .left)), omega arith)
+
+pub gap-at-spec : {M : Type 1} → statement M
+gap-at-spec = tie.close (tie.spec returns returns-2)

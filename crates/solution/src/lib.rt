@@ -1,0 +1,58 @@
+// What a water holds in solution by its analysis (document 01, 'Charge and conductance'): the charges and the conductivities of
+// the table's ten rows, added up to the sums that the checks compare.
+mod ions;
+mod ranges;
+mod sums;
+
+use record::TestedRecord;
+ghost use mathlib.Core.Path.{_≡_};
+ghost use Rattle.solution.specs.Solutions.{sumsIn};
+ghost use Rattle.solution.specs.Held.{sumsBy};
+
+// A charge in u, which is 10^-9 µeq/L, held apart from mass and conductivity by its type.
+pub struct Charge(pub u64);
+
+// A conductivity in 10^-13 µS/cm, held apart from mass and charge by its type.
+pub struct Conductivity(pub u64);
+
+// A sum with hydrogen in it, of which only its neighbouring whole numbers of u are known: from its least value to its greatest.
+pub struct Charges {
+    pub least: Charge,
+    pub most: Charge,
+}
+
+pub struct Conductivities {
+    pub least: Conductivity,
+    pub most: Conductivity,
+}
+
+// The two charges of the sodium/chloride ratio.
+pub struct SodiumChloride {
+    pub sodium: Charge,
+    pub chloride: Charge,
+}
+
+// The sums of a record.
+pub struct Solution {
+    // Whether none of the eight ions is missing.
+    pub known: bool,
+    // How far hydrogen may be above its floor: not at all at a whole pH, else less than 1 u.
+    pub gap: Charge,
+    // Cat, An, CE and CM of document 01.
+    pub cations: Charges,
+    pub anions: Charge,
+    pub calculated: Conductivities,
+    pub measured: Conductivity,
+    pub ratio: SodiumChloride,
+}
+
+// The sums of a record, by its fields and the floor of hydrogen at its pH. Fields that no accepted record has give no sums: so
+// none can be too large for its type.
+pub fn of_fields(own: TestedRecord, floor: u64) -> Solution
+    ensures { λ r. ⌜ sumsIn r ≡ sumsBy own floor ⌝ }
+{
+    if !ranges::hold(own, floor) {
+        return sums::none();
+    }
+    sums::of_ranged(own, floor)
+}
