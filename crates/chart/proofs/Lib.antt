@@ -1,5 +1,4 @@
 -- The laws behind this crate's contracts. Other crates cite `Laws`, and nothing else of it.
-mod EveryLaws
 mod OrderLaws
 mod SpreadLaws
 mod SumLaws

@@ -7,9 +7,10 @@ use native.Mathlib.Omega.{arith}
 use lib.Dec.{leb}
 use lib.ListN.{getD}
 use borrow.Author.Tests.{ltb-true}
+use Rattle.values.specs.Values.{every}
 use Rattle.chart.specs.Setups.{SetupTerms, beyond, onSide}
 use Rattle.chart.specs.Setups.Side.{Above, Below}
-use Rattle.chart.specs.Rules.{every, beyondTwo, beyondTwoBefore, pairOn, pairBeyondTwo}
+use Rattle.chart.specs.Rules.{beyondTwo, beyondTwoBefore, pairOn, pairBeyondTwo}
 use Rattle.chart.specs.RuleSteps.{hasPartner}
 
 -- the values one and two places before it, and whether there is such a place

@@ -6,13 +6,11 @@ use Prim.Native.Nat.{ℕ, zero, suc, _-_, _*_, _^_, _≤_, _<_}
 use native.Mathlib.Nat.{mul-le-mul}
 use native.Mathlib.Omega.{arith}
 use lib.ListN.{length, getD, take, drop}
-use borrow.Author.Tests.{leb-true}
 use Rattle.refusal.specs.Differences.{apart}
-use Rattle.refusal.proofs.Testing.{both}
+use Rattle.values.specs.Values.{allValues, mostSetup}
+use Rattle.values.proofs.Laws.{values-each}
 use Rattle.chart.specs.declared.setup.Setup.{Setup}
 use Rattle.chart.specs.Setups.{square, sumOf, squaresOf, setupOf}
-use Rattle.chart.specs.Rules.{every}
-use Rattle.chart.specs.Charts.{greatestValue, isValue, allValues, mostSetup}
 use Rattle.chart.specs.Room.{room, mostLimit, limitOf, InRoom, prepared, HasRoom}
 use Rattle.chart.proofs.SpreadLaws.{never-negative}
 use Rattle.chart.proofs.SumLaws.{Summed, whole}
@@ -20,12 +18,8 @@ use Rattle.chart.proofs.SumLaws.{Summed, whole}
 -- ---- lists within the room
 -- the one law that knows which values are accepted
 pub values-room : (l : List ℕ) → allValues l ≡ true → InRoom l
-unfolding every
 values-room [] e = tt
-values-room (v ∷ l) e =
-    let p = both (isValue v) (allValues l) e in
-    let b = leb-true v greatestValue (p .0) in
-    (omega arith, values-room l (p .1))
+values-room (v ∷ l) e = let p = values-each v l e in (omega (arith, p .0), values-room l (p .1))
 
 pub room-at : (l : List ℕ) (i : ℕ) → InRoom l → getD l i 0 ≤ room
 room-at [] i h = omega arith

@@ -1,33 +1,34 @@
--- A valid chart: its counts, the room that its values and its setup have, and what is answered to it.
+-- What the tests of a chart's values lead to. Values that they refuse: what is answered. Values that they accept: the room that
+-- they and their setup have, and what is answered.
 use mathlib.Core.Path.{_≡_, sym}
-use mathlib.Core.Bool.{true}
 use mathlib.Core.List.{List, _++_}
 use Prim.Native.Nat.{ℕ, _≤_, _<_}
 use native.Mathlib.Omega.{arith}
-use lib.Dec.{leb}
 use lib.ListN.{length, drop}
-use borrow.Author.Tests.{leb-true}
-use Rattle.refusal.specs.Outcome.{Outcome}
 use Rattle.refusal.specs.Outcome.Outcome.{given, refused}
 use Rattle.refusal.specs.Numbers.{numberOf}
+use Rattle.refusal.specs.declared.Refusal.{Refusal}
 use Rattle.refusal.specs.declared.Refusal.the-variants as refusal
-use Rattle.refusal.proofs.Testing.{both}
 use Rattle.refusal.proofs.LentLaws as lent
 use Rattle.refusal.proofs.LentLaws.{Answers}
+use Rattle.values.specs.declared.Tested.{Tested}
+use Rattle.values.specs.declared.Tested.the-variants as variant
+use Rattle.values.specs.Values.{mostSetup, testOf, testedOutcome}
+use Rattle.values.proofs.Laws.{Valid, counts-within, valid-passes, refused-for-all}
 use Rattle.chart.specs.Setups.{setupOf}
-use Rattle.chart.specs.Charts.{leastSetup, mostSetup, mostLater, countsFit, tested, firstWords, signalWords, signalsOf, lastWord, lastSignalOf}
-use Rattle.chart.specs.Tested.{Valid}
+use Rattle.chart.specs.Charts.{firstWords, signalWords, signalsOf, lastWord, lastSignalOf}
 use Rattle.chart.specs.Room.{InRoom, prepared, HasRoom}
 use Rattle.chart.proofs.RoomLaws.{values-room, has-room}
 use Rattle.chart.proofs.WordLaws.{length-words, all-written}
 
-pub counts-within : (setup later : ℕ) → countsFit setup later ≡ true
-    → (leastSetup ≤ setup) × (setup ≤ mostSetup) × (later ≤ mostLater)
-unfolding countsFit
-counts-within setup later e =
-    let p = both (leb leastSetup setup) _ e in
-    let q = both (leb setup mostSetup) _ (p .1) in
-    (leb-true leastSetup setup (p .0), leb-true setup mostSetup (q .0), leb-true later mostLater (q .1))
+module _ (a l : List ℕ) {r : Tested} (answer : testedOutcome r ≡ testOf a l) {why : Refusal} (is : r ≡ variant.Refused why) where
+  pub signals-refused : refused (numberOf why) ≡ signalsOf a l
+  unfolding signalsOf
+  signals-refused = refused-for-all a l answer is (given (signalWords a l))
+
+  pub last-refused : refused (numberOf why) ≡ lastSignalOf a l
+  unfolding lastSignalOf
+  last-refused = refused-for-all a l answer is (given (lastWord a l))
 
 module _ {a l : List ℕ} (v : Valid a l) where
   -- ---- room
@@ -42,18 +43,14 @@ module _ {a l : List ℕ} (v : Valid a l) where
       let some = counts-within (length a) (length l) (v .counts) .0 in
       has-room a setup-in-room (omega arith)
 
-  -- ---- the answers: both calls pass the tests on to what is to be answered
-  passed-on : {A : Type 0} (rest : Outcome A) → tested a l rest ≡ rest
-  unfolding tested
-  passed-on rest = rw (v .counts, v .setup, v .later)
-
+  -- ---- the answers
   pub last-given : lastSignalOf a l ≡ given (lastWord a l)
   unfolding lastSignalOf
-  last-given = passed-on (given (lastWord a l))
+  last-given = valid-passes a l (given (lastWord a l)) v
 
   signals-given : signalsOf a l ≡ given (signalWords a l)
   unfolding signalsOf
-  signals-given = passed-on (given (signalWords a l))
+  signals-given = valid-passes a l (given (signalWords a l)) v
 
   -- the two ways out of the call that writes its signal words
   module _ (old : List ℕ) where

@@ -2,8 +2,9 @@
 use mathlib.Core.Path.{_≡_, refl}
 use mathlib.Core.List.{List, [], _∷_}
 use Prim.Native.Nat.{ℕ}
+use Rattle.values.specs.Values.{every}
 use Rattle.chart.specs.Setups.{sumOf, squaresOf, beyond}
-use Rattle.chart.specs.Rules.{beyondThree, beyondTwo, beyondTwoBefore, pairOn, pairBeyondTwo, every, sevenOnOneSide, ordered, sevenInOrder, signalAt}
+use Rattle.chart.specs.Rules.{beyondThree, beyondTwo, beyondTwoBefore, pairOn, pairBeyondTwo, sevenOnOneSide, ordered, sevenInOrder, signalAt}
 use Rattle.chart.specs.Charts.{firstWords, signalWords}
 
 -- mean 100, a deviation of 1.49

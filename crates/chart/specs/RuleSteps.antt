@@ -5,9 +5,10 @@ use mathlib.Core.List.{List, [], _∷_}
 use Prim.Native.Nat.{ℕ, _-_}
 use lib.Dec.{leb}
 use lib.ListN.{getD}
+use Rattle.values.specs.Values.{every}
 use Rattle.chart.specs.Setups.{SetupTerms, beyond, onSide}
 use Rattle.chart.specs.Setups.Side.{Above, Below}
-use Rattle.chart.specs.Rules.{every, ordered}
+use Rattle.chart.specs.Rules.{ordered}
 use Rattle.chart.specs.Rules.Course.{Rising, Falling}
 
 -- a setup by its mean alone, S/n: all that a side needs

@@ -5,6 +5,7 @@ use mathlib.Core.List.{List, [], _∷_}
 use Prim.Native.Nat.{ℕ, _+_, _-_}
 use lib.Dec.{leb, ltb}
 use lib.ListN.{getD, take, drop}
+use Rattle.values.specs.Values.{every}
 use Rattle.chart.specs.Setups.{SetupTerms, Side, beyond, onSide}
 use Rattle.chart.specs.Setups.Side.{Above, Below}
 
@@ -35,10 +36,6 @@ abbrev pub seven : List ℕ → ℕ → List ℕ
 seven later i = take (earlier + 1) (drop (i - earlier) later)
 
 -- ---- '4: it and the six later values before it all above, or all below, the mean.'
-unfoldable pub every : (ℕ → Bool) → List ℕ → Bool
-every f [] = true
-every f (v ∷ values) = f v && every f values
-
 unfoldable pub sevenOnOneSide : SetupTerms → List ℕ → ℕ → Bool
 sevenOnOneSide f later i = leb earlier i && (every (onSide f Above) (seven later i) || every (onSide f Below) (seven later i))
 

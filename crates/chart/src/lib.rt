@@ -4,22 +4,15 @@ mod deviations;
 mod rules;
 mod setup;
 mod signal;
-mod tests;
 
 use refusal::Refusal;
 use refusal::Written;
-use tests::Tested;
+use values::Tested;
 ghost use mathlib.Core.Path.{_≡_};
 ghost use lib.ListN.{length};
 ghost use Rattle.refusal.specs.Lent.{fitting, lentAfter, lengthOf, writtenOutcome};
 ghost use Rattle.chart.specs.Setups.{NeverNegative};
-ghost use Rattle.chart.specs.Charts.{countsFit, signalsOf, lastSignalOf, lastOutcome};
-
-const LEAST_SETUP: usize = 10;
-
-const MOST_SETUP: usize = 64;
-
-const MOST_LATER: usize = 64;
+ghost use Rattle.chart.specs.Charts.{signalsOf, lastSignalOf, lastOutcome};
 
 // The signal word of the last later value, or why there is none.
 pub enum Last {
@@ -34,7 +27,7 @@ pub fn signals(setup: &[u32], later: &[u32], out: &mut [u32]) -> Written
     ensures lent { λ _. ⌜ now (out .exit) ≡ lentAfter (fitting (length (now (out .entry))) (signalsOf (now (setup .entry)) (now (later .entry)))) (now (out .entry)) ⌝ }
     ensures spread { λ _. ⌜ NeverNegative ⌝ }
 {
-    if let Tested::Refused(why) = tests::test(setup, later) {
+    if let Tested::Refused(why) = values::test(setup, later) {
         return Written::Refused(why);
     }
     if out.len() < later.len() {
@@ -53,7 +46,7 @@ pub fn signals(setup: &[u32], later: &[u32], out: &mut [u32]) -> Written
 pub fn last_signal(setup: &[u32], later: &[u32]) -> Last
     ensures { λ r. ⌜ lastOutcome r ≡ lastSignalOf (now (setup .entry)) (now (later .entry)) ⌝ }
 {
-    if let Tested::Refused(why) = tests::test(setup, later) {
+    if let Tested::Refused(why) = values::test(setup, later) {
         return Last::Refused(why);
     }
     if later.len() == 0 {
@@ -61,11 +54,4 @@ pub fn last_signal(setup: &[u32], later: &[u32]) -> Last
     }
     let prepared = setup::of_values(setup);
     Last::Given(signal::word(prepared, later, later.len() - 1))
-}
-
-// Whether a chart may have so many setup values and so many later ones.
-pub fn counts_fit(setup: usize, later: usize) -> bool
-    ensures { λ r. ⌜ r ≡ countsFit setup later ⌝ }
-{
-    (LEAST_SETUP <= setup) & ((setup <= MOST_SETUP) & (later <= MOST_LATER))
 }

@@ -8,7 +8,7 @@ ghost use mathlib.Core.Path.{_≡_};
 ghost use Prim.Native.Nat.{_<_, _≤_};
 ghost use lib.ListN.{length};
 ghost use Rattle.chart.specs.Rules.{pairBeyondTwo};
-ghost use Rattle.chart.specs.Charts.{mostSetup};
+ghost use Rattle.values.specs.Values.{mostSetup};
 ghost use Rattle.chart.specs.RuleSteps.{hasPartner, byMean, onOneSide, inOrder};
 ghost use Rattle.chart.specs.Room.{room, termsOf, InRoom, HasRoom};
 

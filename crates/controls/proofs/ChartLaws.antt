@@ -14,10 +14,12 @@ use Rattle.refusal.specs.Numbers.{numberOf}
 use Rattle.refusal.specs.declared.Refusal.{Refusal}
 use Rattle.refusal.specs.declared.Refusal.the-variants as refusal
 use Rattle.refusal.proofs.Testing.{both}
+use Rattle.values.specs.Values.{countsFit, allValues}
+use Rattle.values.proofs.Laws.{values-append}
 use Rattle.chart.specs.declared.Last.{Last}
 use Rattle.chart.specs.declared.Last.the-variants as last
-use Rattle.chart.specs.Charts.{countsFit, allValues, lastSignalOf, lastOutcome}
-use Rattle.chart.proofs.Laws.{last-given, last-refused, values-append}
+use Rattle.chart.specs.Charts.{lastSignalOf, lastOutcome}
+use Rattle.chart.proofs.Laws.{last-given, last-refused}
 use Rattle.words.specs.FromFront.{taken}
 use Rattle.words.proofs.SliceLaws.{part-of}
 use Rattle.controls.specs.declared.first.ChartRead.the-variants as chart-read

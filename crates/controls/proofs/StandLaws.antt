@@ -11,7 +11,7 @@ use borrow.Author.Tests.{leb-true}
 use Rattle.refusal.specs.Numbers.{numberOf}
 use Rattle.refusal.specs.declared.Refusal.the-variants as refusal
 use Rattle.refusal.proofs.Rows.{row-given}
-use Rattle.chart.specs.Charts.{countsFit, allValues}
+use Rattle.values.specs.Values.{countsFit, allValues}
 use Rattle.words.specs.FromFront.{taken}
 use Rattle.words.specs.Sections.{sectionWords}
 use Rattle.words.proofs.TakenLaws.{taken-same, Stands, section-taken}

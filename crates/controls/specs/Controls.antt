@@ -10,7 +10,8 @@ use Rattle.refusal.specs.Outcome.{demand}
 use Rattle.refusal.specs.Numbers.{numberOf}
 use Rattle.refusal.specs.declared.Refusal.the-variants as refusal
 use Rattle.record.specs.Record.{isElement}
-use Rattle.chart.specs.Charts.{countsFit, allValues, lastWord}
+use Rattle.values.specs.Values.{countsFit, allValues}
+use Rattle.chart.specs.Charts.{lastWord}
 use Rattle.words.specs.FromFront.{Read, taken, whole, section}
 
 pub record Chart : Type 0 where

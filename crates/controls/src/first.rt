@@ -6,7 +6,7 @@ ghost use mathlib.Core.Path.{_≡_};
 ghost use mathlib.Core.Bool.{true};
 ghost use Prim.Native.Nat.{_≤_};
 ghost use lib.ListN.{length, drop};
-ghost use Rattle.chart.specs.Charts.{countsFit};
+ghost use Rattle.values.specs.Values.{countsFit};
 ghost use Rattle.controls.specs.Controls.{headWords, valuesOf, chartOf};
 ghost use Rattle.controls.specs.Said.{ChartSaid};
 
@@ -36,7 +36,7 @@ pub fn read_one(words: &[u32], used: &[u32]) -> ChartRead
     }
     let setup = wide(words[1]);
     let later = wide(words[2]);
-    if !chart::counts_fit(setup, later) {
+    if !values::counts_fit(setup, later) {
         return ChartRead::Refused(Refusal::Count);
     }
     read_values(words, element, setup, later)

@@ -1,8 +1,9 @@
--- The tests' answer says whether the chart is valid; where it is, the last word is the signal at the last place.
+-- The tests' answer says whether the values are valid; where it is, the last word is the signal at the last place.
 use mathlib.Core.Path.{sym, ap, _∙_}
 use native.Mathlib.Omega.{arith}
 use Rattle.refusal.specs.Outcome.Outcome.{given}
-use Rattle.chart.proofs.ValidLaws.{setup-in-room, later-in-room, setup-has-room, last-given}
+use Rattle.values.proofs.Laws.{accepted-valid}
+use Rattle.chart.proofs.ValidLaws.{last-refused, setup-in-room, later-in-room, setup-has-room, last-given}
 use Rattle.chart.proofs.WordLaws.{no-last, last-is}
 use borrow.Author.Needs.{needs}
 use Rattle.chart.proofs.last_signal.Statement.{statement}
@@ -15,7 +16,7 @@ enum-known-why : tie.Need-enum-known-why
 enum-known-why c = search needs
 
 returns : tie.Need-returns
-returns c = sym ((rw (c .before .why .given .1) at (c .before .before .before .test .ensures)) .1)
+returns c = last-refused _ _ (c .before .before .before .test .ensures) (c .before .why .given .1)
 
 enum-told : tie.Need-enum-told
 enum-told c = search needs
@@ -23,13 +24,13 @@ enum-told c = search needs
 returns-2 : tie.Need-returns-2
 returns-2 c =
     let told = c .before in
-    let valid = rw (told .enum-told .given .1) at (told .before .before .test .ensures) in
+    let valid = accepted-valid _ _ (told .before .before .test .ensures) (told .enum-told .given .1) in
     ap given (no-last _ _ (c .if1 .taken)) ∙ sym (last-given valid)
 
 of-values-requires : tie.Need-of-values-requires
 of-values-requires c κs =
     let told = c .before in
-    setup-in-room (rw (told .enum-told .given .1) at (told .before .before .test .ensures))
+    setup-in-room (accepted-valid _ _ (told .before .before .test .ensures) (told .enum-told .given .1))
 
 sub-word : tie.Need-sub-word
 sub-word c = search needs
@@ -37,14 +38,14 @@ sub-word c = search needs
 word-requires : tie.Need-word-requires
 word-requires c κs =
     let told = c .before .before in
-    let valid = rw (told .enum-told .given .1) at (told .before .before .test .ensures) in
+    let valid = accepted-valid _ _ (told .before .before .test .ensures) (told .enum-told .given .1) in
     (rw (c .of-values .ensures) (setup-has-room valid), (omega arith, later-in-room valid))
 
 returns-3 : tie.Need-returns-3
 returns-3 c =
     let made = c .before in
     let told = made .before .before in
-    let valid = rw (told .enum-told .given .1) at (told .before .before .test .ensures) in
+    let valid = accepted-valid _ _ (told .before .before .test .ensures) (told .enum-told .given .1) in
     let word = rw (made .of-values .ensures) at (c .word .ensures) in
     ap given (word ∙ last-is _ _ (search needs)) ∙ sym (last-given valid)
 

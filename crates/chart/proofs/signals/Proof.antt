@@ -1,5 +1,5 @@
--- The tests' answer says whether the chart is valid; where it is, the loop writes a word a turn and leaves the rest.
-use mathlib.Core.Path.{_≡_, refl, sym, _∙_}
+-- The tests' answer says whether the values are valid; where it is, the loop writes a word a turn and leaves the rest.
+use mathlib.Core.Path.{_≡_, refl, _∙_}
 use mathlib.Core.List.{_++_}
 use native.Mathlib.Omega.{arith}
 use Prim.Native.Nat.{_-_, _≤_}
@@ -7,8 +7,9 @@ use lib.ListN.{length, drop, length-set}
 use Rattle.chart.specs.Charts.{firstWords}
 use Rattle.chart.specs.Room.{termsOf}
 use Rattle.refusal.proofs.LentLaws.{refused-before}
+use Rattle.values.proofs.Laws.{accepted-valid}
 use Rattle.chart.proofs.SpreadLaws.{never-negative}
-use Rattle.chart.proofs.ValidLaws.{setup-in-room, later-in-room, setup-has-room, too-short, written}
+use Rattle.chart.proofs.ValidLaws.{signals-refused, setup-in-room, later-in-room, setup-has-room, too-short, written}
 use Rattle.chart.proofs.WordLaws.{none-written, one-more}
 use borrow.Author.Needs.{needs}
 use Rattle.chart.proofs.signals.Statement.{statement}
@@ -30,8 +31,7 @@ enum-known-why c = search needs
 returns : tie.Need-returns Inv-loop μ-loop
 returns c =
     let test = c .before .before .before in
-    let said = rw (c .before .why .given .1) at (test .test .ensures) in
-    let way = refused-before _ (test .before .before .before .before .args .out .now) _ (sym (said .0)) in
+    let way = refused-before _ (test .before .before .before .before .args .out .now) _ (signals-refused _ _ (test .test .ensures) (c .before .why .given .1)) in
     (way .0, (way .1, never-negative))
 
 enum-told : tie.Need-enum-told Inv-loop μ-loop
@@ -41,14 +41,14 @@ returns-2 : tie.Need-returns-2 Inv-loop μ-loop
 returns-2 c =
     let told = c .before in
     let test = told .before .before in
-    let valid = rw (told .enum-told .given .1) at (test .test .ensures) in
+    let valid = accepted-valid _ _ (test .test .ensures) (told .enum-told .given .1) in
     let way = too-short valid (test .before .before .before .before .args .out .now) (c .if1 .taken) in
     (way .0, (way .1, never-negative))
 
 of-values-requires : tie.Need-of-values-requires Inv-loop μ-loop
 of-values-requires c κs =
     let told = c .before in
-    let valid = rw (told .enum-told .given .1) at (told .before .before .test .ensures) in
+    let valid = accepted-valid _ _ (told .before .before .test .ensures) (told .enum-told .given .1) in
     setup-in-room valid
 
 loop-holds : tie.Need-loop-holds Inv-loop μ-loop
@@ -58,7 +58,7 @@ word-requires : tie.Need-word-requires Inv-loop μ-loop
 word-requires c κs =
     let made = c .before .before in
     let told = made .before .before in
-    let valid = rw (told .enum-told .given .1) at (told .before .before .test .ensures) in
+    let valid = accepted-valid _ _ (told .before .before .test .ensures) (told .enum-told .given .1) in
     (rw (made .of-values .ensures) (setup-has-room valid), (c .loop-test .taken, later-in-room valid))
 
 mul-out : tie.Need-mul-out Inv-loop μ-loop
@@ -90,7 +90,7 @@ returns-3 c =
     let made = at .before in
     let told = made .before .before in
     let test = told .before .before in
-    let valid = rw (told .enum-told .given .1) at (test .test .ensures) in
+    let valid = accepted-valid _ _ (test .test .ensures) (told .enum-told .given .1) in
     let out = rw (made .of-values .ensures) at (at .loop .inv .2) in
     let old = test .before .before .before .before .args .out .now in
     let way = written valid old {i = at .loop .i} (made .before .if1 .left) (omega arith) out in

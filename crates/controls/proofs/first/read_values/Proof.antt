@@ -3,17 +3,17 @@ use native.Mathlib.Omega.{arith}
 use denote.Ref.{now}
 use lib.ListN.{length-drop}
 use Rattle.controls.specs.Controls.{headWords}
-use Rattle.chart.proofs.Laws.{counts-most}
+use Rattle.values.proofs.Laws.{counts-within}
 use Rattle.controls.proofs.ChartLaws.{values-short, values-taken, values-refused}
 use borrow.Author.Needs.{needs}
 use Rattle.controls.proofs.first.read_values.Statement.{statement}
 use Rattle.controls.proofs.first.read_values.Tie as tie
 
 add-middle : tie.Need-add-middle
-add-middle c = let h = counts-most _ _ (c .before .pre .1) in record { fits = omega (arith, h .0) }
+add-middle c = let h = counts-within _ _ (c .before .pre .1) in record { fits = omega (arith, h .1) }
 
 add-end : tie.Need-add-end
-add-end c = let h = counts-most _ _ (c .before .pre .1) in record { fits = omega (arith, h .0, h .1) }
+add-end c = let h = counts-within _ _ (c .before .pre .1) in record { fits = omega (arith, h .1, h .2) }
 
 returns : tie.Need-returns
 returns c =

@@ -1,8 +1,8 @@
 -- The three tests are the definition's.
 use mathlib.Core.Path.{refl}
-use Rattle.chart.specs.Charts.{countsFit}
-use Rattle.chart.proofs.counts_fit.Statement.{statement}
-use Rattle.chart.proofs.counts_fit.Tie as tie
+use Rattle.values.specs.Values.{countsFit}
+use Rattle.values.proofs.counts_fit.Statement.{statement}
+use Rattle.values.proofs.counts_fit.Tie as tie
 
 returns : tie.Need-returns
 unfolding countsFit

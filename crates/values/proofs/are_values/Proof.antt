@@ -2,11 +2,11 @@
 use mathlib.Core.Path.{sym}
 use Prim.Native.Nat.{_-_}
 use lib.ListN.{length}
-use Rattle.chart.specs.Charts.{isValue}
-use Rattle.chart.proofs.EveryLaws.{Seen, none-seen, one-more, all-seen}
+use Rattle.values.specs.Values.{isValue}
+use Rattle.values.proofs.EveryLaws.{Seen, none-seen, one-more, all-seen}
 use borrow.Author.Needs.{needs}
-use Rattle.chart.proofs.tests.are_values.Statement.{statement}
-use Rattle.chart.proofs.tests.are_values.Tie as tie
+use Rattle.values.proofs.are_values.Statement.{statement}
+use Rattle.values.proofs.are_values.Tie as tie
 
 abbrev Inv-loop : tie.InvT-loop
 Inv-loop words all₀ i₀ all i = Seen isValue words i all

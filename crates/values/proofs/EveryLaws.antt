@@ -6,7 +6,7 @@ use Prim.Native.Nat.{ℕ, _+_, _≤_, _<_}
 use native.Mathlib.Numerals.{add-one}
 use lib.ListN.{length, getD, drop, drop-of-length-le}
 use lib.Seq.{drop-cons}
-use Rattle.chart.specs.Rules.{every}
+use Rattle.values.specs.Values.{every}
 
 -- ---- what a loop has seen and what is still to come, of any test
 pub further : (seen test next : Bool) {rest : Bool} → rest ≡ (test && next) → (seen && rest) ≡ ((seen && test) && next)
