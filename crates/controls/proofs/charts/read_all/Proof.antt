@@ -1,26 +1,20 @@
 -- The charts that are left give the whole: those before the index are read, and their columns are held.
-use mathlib.Core.Path.{_≡_}
-use Prim.Native.Nat.{_-_, _≤_}
+use Prim.Native.Nat.{_-_}
 use native.Mathlib.Omega.{arith}
 use denote.Ref.{now}
-use lib.ListN.{length, length-set}
-use Rattle.controls.specs.Controls.{mostCharts}
-use Rattle.controls.proofs.ColumnLaws.{Begun, charts-begun, charts-refused, charts-next, answer-whole, answer-refused}
+use Rattle.controls.proofs.ColumnLaws.{Underway, charts-begun, charts-refused, charts-next, answer-whole, answer-refused}
 use borrow.Author.Needs.{needs}
 use Rattle.controls.proofs.charts.read_all.Statement.{statement}
 use Rattle.controls.proofs.charts.read_all.Tie as tie
 
 abbrev Inv-loop : tie.InvT-loop
-Inv-loop words count elements₀ signals₀ at₀ i₀ elements signals at i =
-    (i ≤ count) × (count ≤ mostCharts) × (at ≤ length words) × (length elements ≡ mostCharts) × (length signals ≡ mostCharts) × Begun words count i at elements signals
+Inv-loop words count elements₀ signals₀ at₀ i₀ elements signals at i = Underway words count i at elements signals
 
 abbrev μ-loop : tie.MeasureT-loop
 μ-loop words count elements₀ signals₀ at₀ i₀ elements signals at i = count - i
 
 loop-holds : tie.Need-loop-holds Inv-loop μ-loop
-loop-holds c =
-    let pre = c .before .pre in
-    (search needs, pre .2, pre .0, search needs, search needs, charts-begun _ _ _ _ (pre .0) (pre .1) (pre .2))
+loop-holds c = charts-begun _ _ _ _ (search needs) (search needs) (c .before .pre)
 
 mul-read-one : tie.Need-mul-read-one Inv-loop μ-loop
 mul-read-one c = search needs
@@ -66,11 +60,9 @@ add-at c =
     let turn = c .before .before .before in
     let test = turn .before .before .before .before in
     let loop = test .before .loop in
-    let inv = loop .inv in
-    let l = test .loop-test .taken in
     let words = now (test .before .before .before .args .words) in
-    let n = charts-next words _ _ (loop .at) _ _ (inv .5) l (turn .read-one .ensures) (c .before .element .given .1) (inv .2) (omega (arith, l)) (omega (arith, l)) in
-    record { fits = omega (arith, n .0) }
+    let n = charts-next words _ _ (loop .at) _ _ (loop .inv) (test .loop-test .taken) (turn .read-one .ensures) (c .before .element .given .1) in
+    record { fits = omega (arith, n .2) }
 
 add-i : tie.Need-add-i Inv-loop μ-loop
 add-i c = search needs
@@ -83,11 +75,8 @@ loop-again c =
     let turn = c .before .before .before in
     let test = turn .before .before .before .before in
     let loop = test .before .loop in
-    let inv = loop .inv in
-    let l = test .loop-test .taken in
     let words = now (test .before .before .before .args .words) in
-    let n = charts-next words _ _ (loop .at) _ _ (inv .5) l (turn .read-one .ensures) (c .before .element .given .1) (inv .2) (omega (arith, l)) (omega (arith, l)) in
-    (search needs, search needs, n .0, simp length-set (inv .3), simp length-set (inv .4), n .1)
+    charts-next words _ _ (loop .at) _ _ (loop .inv) (test .loop-test .taken) (turn .read-one .ensures) (c .before .element .given .1)
 
 enum-known-why : tie.Need-enum-known-why Inv-loop μ-loop
 enum-known-why c = search needs
@@ -102,12 +91,10 @@ returns c =
     let loop = test .before .loop in
     let words = now (test .before .before .before .args .words) in
     answer-refused words (c .refused .result) (c .refused .ensures)
-    (charts-refused words _ _ (loop .at) _ _ (loop .inv .5) (test .loop-test .taken) (turn .read-one .ensures) (c .before .before .why .given .1))
+    (charts-refused words _ _ (loop .at) _ _ (loop .inv) (test .loop-test .taken) (turn .read-one .ensures) (c .before .before .why .given .1))
 
 returns-2 : tie.Need-returns-2 Inv-loop μ-loop
-returns-2 c =
-    let inv = c .before .loop .inv in
-    answer-whole _ _ _ _ _ _ (inv .5) (omega (arith, inv .0, c .loop-test .left)) (inv .2)
+returns-2 c = answer-whole _ _ _ _ _ _ (c .before .loop .inv) (c .loop-test .left)
 
 pub read-all-spec : {M : Type 1} → statement M
 read-all-spec =
