@@ -3,9 +3,9 @@ use mathlib.Core.Bool.{Bool, true, false, cond}
 use mathlib.Core.List.{List}
 use Prim.Native.Nat.{ℕ, _≤_}
 use lib.Dec.{leb, eqb, lit≤}
+use Rattle.record.specs.Record.{kindOf, readingAt, present, massAt, ammonium, sodium, nitrate, chloride, totalNitrogen}
 use Rattle.solution.specs.Solutions.{ionsKnown}
 use Rattle.judge.specs.declared.window.Window.{Window}
-use Rattle.record.specs.Record.{kindOf, readingAt, present, massAt, ammonium, sodium, nitrate, chloride, totalNitrogen}
 use Rattle.judge.specs.Verdicts.{applied}
 use Rattle.judge.specs.IonBalance.{balanceAppliesTo}
 use Rattle.judge.specs.Ratios.{sodiumChlorideOf, nitrogenOf}

@@ -4,9 +4,9 @@ use mathlib.Core.Logic.{_⊎_, inl, inr}
 use Prim.Native.Nat.{ℕ, _+_, _*_, _≤_}
 use native.Mathlib.Omega.{arith}
 use Rattle.record.specs.Record.{readings}
+use Rattle.solution.proofs.SumLaws.{sum-over, sum-under, sum-times, sum-mix, sum-same}
 use Rattle.judge.specs.Choices.{Ranges, Choice, Among}
 use Rattle.judge.specs.Corners.{Part, partOf, partAt}
-use Rattle.solution.proofs.SumLaws.{sum-over, sum-under, sum-times, sum-mix, sum-same}
 use Rattle.judge.proofs.Mixing.{mix, at}
 
 module _ (p : Part) where

@@ -5,9 +5,9 @@ use mathlib.Core.List.{List}
 use Prim.Native.Nat.{ℕ, _*_, _≤_, _<_}
 use native.Mathlib.Omega.{arith}
 use lib.Dec.{leb, eqb}
+use Rattle.record.specs.Record.{kindOf, readingAt, present, massAt, ammonium, sodium, nitrate, chloride, totalNitrogen}
 use Rattle.solution.specs.Solutions.{sodiumCharge, chlorideCharge}
 use Rattle.judge.specs.Verdicts.{applied}
-use Rattle.record.specs.Record.{kindOf, readingAt, present, massAt, ammonium, sodium, nitrate, chloride, totalNitrogen}
 use Rattle.judge.specs.Ratios.{sodiumChlorideWindow, nitrogenWindow, mineralNitrogen, sodiumChlorideOf, nitrogenOf}
 use Rattle.judge.specs.Truth.{PlainTruth, ratioApplies, ratioKnown, nitrogenApplies, nitrogenKnown}
 use Rattle.judge.proofs.PointLaws.{Settled, settled-1, settled-2, settled-few, settled-as, settled}

@@ -1,18 +1,18 @@
 -- Document 01, 'Conductivity'.
 use mathlib.Core.Bool.{true, cond}
 use mathlib.Core.List.{List}
-use Prim.Native.Nat.{ℕ, _+_, _-_, _*_, _^_, _≤_}
+use Prim.Native.Nat.{ℕ, _+_, _-_, _*_, _≤_}
 use lib.Dec.{leb}
 use lib.IntN.{subℕ}
-use Rattle.solution.specs.Ions.{conducted, hydrogenConductance, alkalinityCharge, alkalinityConductance, sum}
+use Rattle.refusal.specs.Differences.{apart}
+use Rattle.record.specs.Record.{conductivityOf, alkalinityOf, readings}
+use Rattle.solution.specs.Ions.{conducted, hydrogenConductance, sum}
 use Rattle.solution.specs.Solutions.{ionsKnown, alkalinityConducts, othersConduct, measuredOf}
 use Rattle.judge.specs.declared.window.Window.{Window}
-use Rattle.record.specs.Record.{conductivityOf, alkalinityOf, readings, massAt}
 use Rattle.judge.specs.Choices.{Choice}
 use Rattle.judge.specs.Verdicts.{applied}
 use Rattle.judge.specs.AtHydrogen.{Bounds}
 use Rattle.judge.specs.Corners.{Check, passesOf}
-use Rattle.refusal.specs.Differences.{apart}
 use Rattle.judge.specs.Ranges.{rangesOf}
 
 -- 'M is 30 up to 10.0, 20 up to 20.0, 10 above', by tenths of µS/cm

@@ -3,10 +3,10 @@
 use mathlib.Core.Bool.{Bool, cond}
 use Prim.Native.Nat.{ℕ, _+_, _*_, _≤_}
 use lib.Dec.{ltb}
+use Rattle.record.specs.Record.{readings}
 use Rattle.solution.specs.Ions.{sum}
 use Rattle.solution.specs.Solutions.{gap}
 use Rattle.judge.specs.declared.window.Window.{Window}
-use Rattle.record.specs.Record.{readings}
 use Rattle.judge.specs.Choices.{Ranges, Choice}
 
 -- a sum: what is fixed, and the weight of each reading's amount

@@ -5,10 +5,10 @@ use Prim.Native.Nat.{ℕ, _+_, _-_, _*_, _≤_}
 use lib.Dec.{leb, ltb, eqb}
 use lib.IntN.{subℕ}
 use Rattle.refusal.specs.Differences.{apart}
+use Rattle.record.specs.Record.{kindOf, conductivityOf, alkalinityOf, readings, readingAt, present, massAt, organicCarbon}
 use Rattle.solution.specs.Ions.{cationCharge, anionCharge, alkalinityCharge, sum}
 use Rattle.solution.specs.Solutions.{ionsKnown, otherCations, anionsOf}
 use Rattle.judge.specs.declared.window.Window.{Window}
-use Rattle.record.specs.Record.{kindOf, conductivityOf, alkalinityOf, readings, readingAt, present, massAt, organicCarbon}
 use Rattle.judge.specs.Choices.{Choice}
 use Rattle.judge.specs.Verdicts.{applied}
 use Rattle.judge.specs.AtHydrogen.{Bounds}

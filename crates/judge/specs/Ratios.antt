@@ -1,12 +1,11 @@
 -- Document 01, 'Na/Cl' and 'Nitrogen': two checks in which hydrogen plays no part.
 use mathlib.Core.Bool.{Bool, cond}
 use mathlib.Core.List.{List}
-use Prim.Native.Nat.{ℕ, _+_, _*_}
+use Prim.Native.Nat.{ℕ, _+_}
 use lib.Dec.{leb, eqb}
-use Rattle.solution.specs.Ions.{cationCharge, anionCharge}
+use Rattle.record.specs.Record.{kindOf, readingAt, present, massAt, ammonium, sodium, nitrate, chloride, totalNitrogen}
 use Rattle.solution.specs.Solutions.{sodiumCharge, chlorideCharge}
 use Rattle.judge.specs.declared.window.Window.{Window}
-use Rattle.record.specs.Record.{kindOf, readingAt, present, massAt, ammonium, sodium, nitrate, chloride, totalNitrogen}
 use Rattle.judge.specs.Corners.{decided}
 
 -- 'the ratio of charges is from 0.5 to 1.5, ends included'

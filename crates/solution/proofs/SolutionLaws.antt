@@ -14,7 +14,7 @@ use Rattle.record.specs.Tested.{Holds}
 use Rattle.record.proofs.AcceptedLaws.{Valid}
 use Rattle.record.proofs.MassLaws.{mass-most}
 use Rattle.solution.specs.Ions.{cationFactor, anionFactor, cationCharge, anionCharge, conducted, alkalinityCharge, hydrogenConductance}
-use Rattle.solution.specs.Solutions.{Sums, gap, isWhole, alkalinityConducts, measuredOf, sumsOf}
+use Rattle.solution.specs.Solutions.{gap, isWhole, alkalinityConducts, measuredOf, sumsOf}
 use Rattle.solution.specs.Held.{mostFloor, sumsHeld, inRanges, sumsBy}
 use Rattle.solution.specs.Steps.{Bounded}
 use Rattle.solution.proofs.HeldLaws.{held-known, held-sum, held-amount, held-small, small-are}

@@ -1,5 +1,4 @@
 -- A record's fields as they are held by value, and what their sums are.
-use mathlib.Core.Path.{_≡_}
 use mathlib.Core.Bool.{Bool, false, _&&_, cond}
 use mathlib.Core.List.{List}
 use Prim.Native.Nat.{ℕ, _≤_, _<_}

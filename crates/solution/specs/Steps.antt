@@ -1,7 +1,7 @@
 -- What the code's own parts say, and the ranges that the arithmetic of the checks rests on.
 use mathlib.Core.Path.{_≡_}
 use mathlib.Core.List.{List}
-use Prim.Native.Nat.{ℕ, _*_, _≤_}
+use Prim.Native.Nat.{_*_, _≤_}
 use Rattle.record.specs.declared.Analyte.{Analyte}
 use Rattle.record.specs.Record.{ions as eight, readings, allBelow}
 use Rattle.solution.specs.declared.ions.Sums as ions

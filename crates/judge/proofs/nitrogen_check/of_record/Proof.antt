@@ -42,7 +42,7 @@ returns-3 c = let nitrate = c .before .before .before in
 
 plus-requires : tie.Need-plus-requires
 plus-requires c κs = let p = c .before .before .before .before .before .before .before .before .before .pre in
-    (p .most nitrate (omega arith), p .most ammonium (omega arith))
+    omega (arith, p .most nitrate (omega arith), p .most ammonium (omega arith))
 
 verdict-requires : tie.Need-verdict-requires
 verdict-requires c κs = let p = c .before .before .before .before .before .before .before .before .before .before .pre in
