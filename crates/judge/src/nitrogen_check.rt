@@ -7,7 +7,7 @@ use record::Analyte;
 use verdict::Verdict;
 ghost use mathlib.Core.Path.{_≡_};
 ghost use Prim.Native.Nat.{_+_, _≤_};
-ghost use Rattle.record.specs.Record.{mostMass, ammonium, nitrate, totalNitrogen};
+ghost use Rattle.record.specs.Record.{readings, mostMass, ammonium, nitrate, totalNitrogen};
 ghost use Rattle.record.specs.Tested.{analyteAt};
 ghost use Rattle.verdict.specs.Numbers.{verdictNumber};
 ghost use Rattle.solution.specs.Held.{Small};
@@ -17,7 +17,7 @@ ghost use Rattle.judge.specs.Prepared.{nitrogenIn};
 
 // The check of a record, by its readings.
 pub fn of_record(analytes: [Analyte; record::READINGS]) -> Verdict
-    requires { ⌜ Small analytes ⌝ }
+    requires { ⌜ Small readings analytes ⌝ }
     ensures { λ r. ⌜ verdictNumber r ≡ nitrogenIn (analyteAt analytes totalNitrogen) (analyteAt analytes nitrate) (analyteAt analytes ammonium) ⌝ }
 {
     let total = analytes[record::TOTAL_NITROGEN];

@@ -32,7 +32,7 @@ module _ (s : List ℕ) (r : TestedRecord) (w : Holds s r) where
   pub held-amount : (i : ℕ) → i < readings → amountAt h i ≡ massAt s i
   held-amount i l = ap (λ (a : Analyte). a .mass .0) (w .readings i l)
 
-  pub held-small : Small h
+  pub held-small : Small readings h
   held-small = record { most = λ i l. rw (held-amount i l) (mass-most (readingAt s i)) }
 
   pub held-known : allBelow (thereAt h) ions ≡ ionsKnown s
@@ -43,10 +43,10 @@ module _ (s : List ℕ) (r : TestedRecord) (w : Holds s r) where
   held-sum w = weighed-same w (amountAt h) (massAt s) readings held-amount
 
 -- as one test
-pub small-are : (analytes : List Analyte) → Small analytes → areSmall analytes ≡ true
+pub small-are : (analytes : List Analyte) → Small readings analytes → areSmall analytes ≡ true
 unfolding areSmall
-small-are analytes h = each-all (λ i. leb (amountAt analytes i) mostMass) readings (λ i l. le-leb _ _ (h .most i l))
+small-are analytes h = each-all (λ i. leb (amountAt analytes i) mostMass) ions (λ i l. le-leb _ _ (h .most i (omega arith)))
 
-pub are-small : (analytes : List Analyte) → areSmall analytes ≡ true → Small analytes
+pub are-small : (analytes : List Analyte) → areSmall analytes ≡ true → Small ions analytes
 unfolding areSmall
-are-small analytes t = record { most = λ i l. leb-true _ _ (all-each (λ i. leb (amountAt analytes i) mostMass) readings t i l) }
+are-small analytes t = record { most = λ i l. leb-true _ _ (all-each (λ i. leb (amountAt analytes i) mostMass) ions t i l) }

@@ -5,7 +5,7 @@ use Prim.Native.Nat.{ℕ, _≤_, _<_}
 use lib.Dec.{leb}
 use Rattle.record.specs.declared.Analyte.{Analyte}
 use Rattle.record.specs.declared.TestedRecord.{TestedRecord}
-use Rattle.record.specs.Record.{readings, present, mostMass, mostConductivity, mostAlkalinity, allBelow}
+use Rattle.record.specs.Record.{ions, present, mostMass, mostConductivity, mostAlkalinity, allBelow}
 use Rattle.record.specs.Tested.{analyteAt}
 use Rattle.solution.specs.Solutions.{Sums, sumsWith}
 
@@ -35,12 +35,12 @@ noSums =
       chloride = 0;
     }
 
--- no amount, no conductivity, no alkalinity and no floor is above that of every record. The floor at pH 2.00 is 10^13 u
+-- no ion's amount, no conductivity, no alkalinity and no floor is above that of every record. The floor at pH 2.00 is 10^13 u
 abbrev pub mostFloor : ℕ
 mostFloor = 10_000_000_000_000
 
 unfoldable pub areSmall : List Analyte → Bool
-areSmall analytes = allBelow (λ i. leb (amountAt analytes i) mostMass) readings
+areSmall analytes = allBelow (λ i. leb (amountAt analytes i) mostMass) ions
 
 unfoldable pub inRanges : TestedRecord → ℕ → Bool
 inRanges own floor = leb floor mostFloor && (leb (own .conductivity) mostConductivity && (leb (own .alkalinity) mostAlkalinity && areSmall (own .analytes)))
@@ -49,12 +49,12 @@ inRanges own floor = leb floor mostFloor && (leb (own .conductivity) mostConduct
 unfoldable pub sumsBy : TestedRecord → ℕ → Sums
 sumsBy own floor = cond (inRanges own floor) (sumsHeld own floor) noSums
 
--- the same as facts
-pub record Small (analytes : List Analyte) : Type 0 where
-  pub most : (i : ℕ) → i < readings → amountAt analytes i ≤ mostMass
+-- the same as facts, of the first n readings
+pub record Small (n : ℕ) (analytes : List Analyte) : Type 0 where
+  pub most : (i : ℕ) → i < n → amountAt analytes i ≤ mostMass
 
 pub record Ranged (own : TestedRecord) (floor : ℕ) : Type 0 where
   pub hydrogen : floor ≤ mostFloor
   pub measured : own .conductivity ≤ mostConductivity
   pub alkalinity : own .alkalinity ≤ mostAlkalinity
-  pub small : Small (own .analytes)
+  pub small : Small ions (own .analytes)

@@ -84,7 +84,7 @@ fn ion_conductivity(ion: usize, q: Charge) -> Conductivity
 
 // Of a record's readings. The loop has no way out: a missing ion has no amount, and adds nothing.
 pub fn sums_of(analytes: [Analyte; record::READINGS]) -> Sums
-    requires { ⌜ Small analytes ⌝ }
+    requires { ⌜ Small ions analytes ⌝ }
     ensures { λ r. ⌜ IonSums analytes r ⌝ }
 {
     let mut known = true;
@@ -112,7 +112,7 @@ pub fn sums_of(analytes: [Analyte; record::READINGS]) -> Sums
 
 // The two charges of the sodium/chloride ratio.
 pub fn sodium_chloride(analytes: [Analyte; record::READINGS]) -> SodiumChloride
-    requires { ⌜ Small analytes ⌝ }
+    requires { ⌜ Small ions analytes ⌝ }
     ensures { λ r. ⌜ (r .sodium .0 ≡ cationCharge sodium * amountAt analytes sodium) × (r .chloride .0 ≡ anionCharge chloride * amountAt analytes chloride) ⌝ }
 {
     let sodium = analytes[record::SODIUM];

@@ -1,5 +1,6 @@
 // Whether fields are within the ranges of a record.
 use record::Analyte;
+use record::IONS;
 use record::MOST_ALKALINITY;
 use record::MOST_CONDUCTIVITY;
 use record::MOST_MASS;
@@ -20,13 +21,13 @@ pub fn hold(own: TestedRecord, floor: u64) -> bool
             & ((own.alkalinity <= MOST_ALKALINITY) & are_small(analytes)))
 }
 
-// The loop has no way out: of a record that was tested, all of them are.
+// Of the eight ions. The loop has no way out: of a record that was tested, all of them are.
 fn are_small(analytes: [Analyte; READINGS]) -> bool
     ensures { λ r. ⌜ r ≡ areSmall analytes ⌝ }
 {
     let mut small = true;
     let mut i: usize = 0;
-    while i < READINGS {
+    while i < IONS {
         let analyte = analytes[i];
         small = small & (analyte.mass.0 <= MOST_MASS);
         i += 1;

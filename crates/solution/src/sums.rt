@@ -9,9 +9,10 @@ use crate::ions;
 use record::TestedRecord;
 ghost use mathlib.Core.Path.{_≡_};
 ghost use Prim.Native.Nat.{_+_, _*_, _≤_};
+ghost use Rattle.record.specs.Record.{mostConductivity};
 ghost use Rattle.solution.specs.Ions.{hydrogenConductance, alkalinityCharge};
 ghost use Rattle.solution.specs.Solutions.{isWhole, gap, measuredOf, sumsIn};
-ghost use Rattle.solution.specs.Held.{sumsHeld, noSums, Ranged};
+ghost use Rattle.solution.specs.Held.{mostFloor, sumsHeld, noSums, Ranged};
 
 // u in a tenth of a µeq/L, and 10^-13 µS/cm in a tenth of a µS/cm.
 const ALKALINITY_UNIT: u64 = 100000000;
@@ -81,7 +82,7 @@ fn alkalinity_charge(tenths: u32) -> Charge
 }
 
 fn measured_conductivity(tenths: u32) -> Conductivity
-    requires { ⌜ tenths ≤ 100_000 ⌝ }
+    requires { ⌜ tenths ≤ mostConductivity ⌝ }
     ensures { λ r. ⌜ r .0 ≡ measuredOf tenths ⌝ }
 {
     Conductivity((tenths as u64) * MEASURED_UNIT)
@@ -89,7 +90,7 @@ fn measured_conductivity(tenths: u32) -> Conductivity
 
 // Hydrogen and the other cations.
 fn cations(floor: Charge, gap: Charge, others: Charge) -> Charges
-    requires { ⌜ (floor .0 ≤ 10_000_000_000_000) × (gap .0 ≤ 1) × (others .0 ≤ 160_000_000_000_000) ⌝ }
+    requires { ⌜ (floor .0 ≤ mostFloor) × (gap .0 ≤ 1) × (others .0 ≤ 160_000_000_000_000) ⌝ }
     ensures { λ r. ⌜ (r .least .0 ≡ floor .0 + others .0) × (r .most .0 ≡ floor .0 + gap .0 + others .0) ⌝ }
 {
     let least = floor.plus(others);
@@ -99,7 +100,7 @@ fn cations(floor: Charge, gap: Charge, others: Charge) -> Charges
 
 // What hydrogen and all the others conduct.
 fn calculated(floor: Charge, gap: Charge, others: Conductivity) -> Conductivities
-    requires { ⌜ (floor .0 ≤ 10_000_000_000_000) × (gap .0 ≤ 1) × (others .0 ≤ 400_000_000_000_000_000) ⌝ }
+    requires { ⌜ (floor .0 ≤ mostFloor) × (gap .0 ≤ 1) × (others .0 ≤ 400_000_000_000_000_000) ⌝ }
     ensures { λ r. ⌜ (r .least .0 ≡ hydrogenConductance * floor .0 + others .0) × (r .most .0 ≡ hydrogenConductance * (floor .0 + gap .0) + others .0) ⌝ }
 {
     let least = floor.conducting(ions::HYDROGEN_CONDUCTANCE).plus(others);
