@@ -4,9 +4,10 @@ use mathlib.Core.List.{List}
 use Prim.Native.Nat.{ℕ}
 use Rattle.refusal.specs.Outcome.{Outcome}
 use Rattle.refusal.specs.Outcome.Outcome.{given, refused}
-use Rattle.record.specs.declared.Analyte.{Analyte}
+use Rattle.reading.specs.declared.Analyte.{Analyte}
+use Rattle.reading.specs.Analytes.{present}
 use Rattle.record.specs.declared.TestedRecord.{TestedRecord}
-use Rattle.record.specs.Record.{ions, present, allBelow}
+use Rattle.record.specs.Record.{ions, allBelow}
 use Rattle.record.specs.Tested.{Fields, analyteAt, fieldsIn}
 use Rattle.agreement.specs.Agreement.{phAgrees, agreesBy}
 

@@ -1,6 +1,6 @@
 // Two records field by field. A difference is a whole number, so a tenth of the larger may be cut to one: then no product is
 // made that could be too large.
-use record::Analyte;
+use reading::Analyte;
 use record::IONS;
 use record::READINGS;
 use record::TestedRecord;

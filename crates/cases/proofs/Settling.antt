@@ -14,7 +14,8 @@ use Rattle.hydrogen.proofs.Laws.{floor-in-range, floor-is}
 use Rattle.reading.specs.Ranges.{inRange, isValue}
 use Rattle.reading.specs.Readings.{missingFrom, measuredFrom, readingOf}
 use Rattle.reading.specs.Amounts.{Amount, nearest, valueMass, valueAmount}
-use Rattle.record.specs.Record.{phOf, conductivityOf, alkalinityOf, readAt, readingAt, massOf, massAt, allBelow, accepted, acceptedRest}
+use Rattle.reading.specs.Analytes.{massOf}
+use Rattle.record.specs.Record.{phOf, conductivityOf, alkalinityOf, readAt, readingAt, massAt, allBelow, accepted, acceptedRest}
 use Rattle.solution.specs.Ions.{cationFactor, anionFactor, conductance, sum}
 use Rattle.judge.specs.Choices.{Ranges}
 use Rattle.judge.specs.Verdicts.{applied}

@@ -3,8 +3,8 @@ use mathlib.Core.Path.{_≡_}
 use mathlib.Core.Bool.{true, false}
 use Prim.Native.Nat.{ℕ, _+_}
 use lib.Dec.{leb, eqb}
-use Rattle.record.specs.declared.Analyte.{Analyte}
-use Rattle.record.specs.Record.{present}
+use Rattle.reading.specs.declared.Analyte.{Analyte}
+use Rattle.reading.specs.Analytes.{present}
 use Rattle.solution.specs.Solutions.{Sums}
 use Rattle.judge.specs.Corners.{decided}
 use Rattle.judge.specs.IonBalance.{balanceApplies, balanceLimit, balanceWindow}

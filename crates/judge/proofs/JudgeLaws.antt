@@ -5,7 +5,7 @@ use Prim.Native.Nat.{ℕ, _+_, _*_}
 use native.Mathlib.Omega.{arith}
 use Rattle.refusal.specs.Outcome.Outcome.{given}
 use Rattle.hydrogen.specs.Floors.{floorAt}
-use Rattle.record.specs.declared.Analyte.{Analyte}
+use Rattle.reading.specs.declared.Analyte.{Analyte}
 use Rattle.record.specs.declared.Tested.the-variants as tested
 use Rattle.record.specs.declared.TestedRecord.{TestedRecord}
 use Rattle.record.specs.Record.{readings, ammonium, sodium, nitrate, chloride, totalNitrogen, organicCarbon, phOf, conductivityOf, massAt}

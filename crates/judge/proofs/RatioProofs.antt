@@ -5,7 +5,8 @@ use mathlib.Core.List.{List}
 use Prim.Native.Nat.{ℕ, _*_, _≤_, _<_}
 use native.Mathlib.Omega.{arith}
 use lib.Dec.{leb, eqb}
-use Rattle.record.specs.Record.{kindOf, readingAt, present, massAt, ammonium, sodium, nitrate, chloride, totalNitrogen}
+use Rattle.reading.specs.Analytes.{present}
+use Rattle.record.specs.Record.{kindOf, readingAt, massAt, ammonium, sodium, nitrate, chloride, totalNitrogen}
 use Rattle.solution.specs.Solutions.{sodiumCharge, chlorideCharge}
 use Rattle.judge.specs.Verdicts.{applied}
 use Rattle.judge.specs.Ratios.{sodiumChlorideWindow, nitrogenWindow, mineralNitrogen, sodiumChlorideOf, nitrogenOf}

@@ -5,7 +5,8 @@ use Prim.Native.Nat.{ℕ, _+_, _-_, _*_, _≤_}
 use lib.Dec.{leb, ltb, eqb}
 use lib.IntN.{subℕ}
 use Rattle.refusal.specs.Differences.{apart}
-use Rattle.record.specs.Record.{kindOf, conductivityOf, alkalinityOf, readings, readingAt, present, massAt, organicCarbon}
+use Rattle.reading.specs.Analytes.{present}
+use Rattle.record.specs.Record.{kindOf, conductivityOf, alkalinityOf, readings, readingAt, massAt, organicCarbon}
 use Rattle.solution.specs.Ions.{cationCharge, anionCharge, alkalinityCharge, sum}
 use Rattle.solution.specs.Solutions.{ionsKnown, otherCations, anionsOf}
 use Rattle.judge.specs.declared.window.Window.{Window}

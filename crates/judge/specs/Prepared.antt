@@ -3,9 +3,9 @@ use mathlib.Core.Path.{_≡_}
 use mathlib.Core.Bool.{true}
 use mathlib.Core.List.{List}
 use Prim.Native.Nat.{ℕ, _+_}
-use Rattle.record.specs.declared.Analyte.{Analyte}
+use Rattle.reading.specs.declared.Analyte.{Analyte}
+use Rattle.reading.specs.Analytes.{present}
 use Rattle.record.specs.declared.TestedRecord.{TestedRecord}
-use Rattle.record.specs.Record.{present}
 use Rattle.record.specs.Tested.{Holds}
 use Rattle.solution.specs.Solutions.{Sums, sumsOf}
 use Rattle.solution.specs.Held.{sumsBy}

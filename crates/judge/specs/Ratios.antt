@@ -3,7 +3,8 @@ use mathlib.Core.Bool.{Bool, cond}
 use mathlib.Core.List.{List}
 use Prim.Native.Nat.{ℕ, _+_}
 use lib.Dec.{leb, eqb}
-use Rattle.record.specs.Record.{kindOf, readingAt, present, massAt, ammonium, sodium, nitrate, chloride, totalNitrogen}
+use Rattle.reading.specs.Analytes.{present}
+use Rattle.record.specs.Record.{kindOf, readingAt, massAt, ammonium, sodium, nitrate, chloride, totalNitrogen}
 use Rattle.solution.specs.Solutions.{sodiumCharge, chlorideCharge}
 use Rattle.judge.specs.declared.window.Window.{Window}
 use Rattle.judge.specs.Corners.{decided}

@@ -6,7 +6,8 @@ use mathlib.Core.Logic.{_↔_}
 use Prim.Native.Nat.{ℕ, _*_, _≤_, _<_}
 use lib.Dec.{leb, eqb}
 use Rattle.hydrogen.specs.Floors.{WholePh}
-use Rattle.record.specs.Record.{phOf, conductivityOf, alkalinityOf, kindOf, readingAt, present, massAt, ammonium, sodium, nitrate, chloride, totalNitrogen}
+use Rattle.reading.specs.Analytes.{present}
+use Rattle.record.specs.Record.{phOf, conductivityOf, alkalinityOf, kindOf, readingAt, massAt, ammonium, sodium, nitrate, chloride, totalNitrogen}
 use Rattle.solution.specs.Solutions.{ionsKnown, measuredOf, sodiumCharge, chlorideCharge}
 use Rattle.judge.specs.Choices.{Choice, Among}
 use Rattle.judge.specs.Verdicts.{Judged}

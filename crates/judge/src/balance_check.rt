@@ -2,12 +2,13 @@
 use crate::window;
 use crate::window::Fraction;
 use crate::window::Window;
-use record::Analyte;
+use reading::Analyte;
 use solution::Solution;
 use verdict::Verdict;
 ghost use mathlib.Core.Path.{_≡_};
 ghost use Prim.Native.Nat.{_≤_};
-ghost use Rattle.record.specs.Record.{organicCarbon, present};
+ghost use Rattle.reading.specs.Analytes.{present};
+ghost use Rattle.record.specs.Record.{organicCarbon};
 ghost use Rattle.record.specs.Tested.{analyteAt};
 ghost use Rattle.verdict.specs.Numbers.{verdictNumber};
 ghost use Rattle.solution.specs.Solutions.{sumsIn};

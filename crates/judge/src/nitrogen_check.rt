@@ -2,8 +2,8 @@
 use crate::window;
 use crate::window::Fraction;
 use crate::window::Window;
+use reading::Analyte;
 use reading::Mass;
-use record::Analyte;
 use verdict::Verdict;
 ghost use mathlib.Core.Path.{_≡_};
 ghost use Prim.Native.Nat.{_+_, _≤_};

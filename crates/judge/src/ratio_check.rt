@@ -2,7 +2,7 @@
 use crate::window;
 use crate::window::Fraction;
 use crate::window::Window;
-use record::Analyte;
+use reading::Analyte;
 use solution::Charge;
 use solution::Solution;
 use verdict::Verdict;

@@ -1,14 +1,15 @@
 // Readings of the analyser (document 01, 'A reading'): made from a value and its quantification limit, or from the
-// two words of a record; written back as words; and converted to an amount in whole µg/L.
+// two words of a record, there with their amount; written back as words; and converted to an amount in whole µg/L.
 mod marks;
 mod ranges;
 mod rounding;
 
 use refusal::Refusal;
 ghost use mathlib.Core.Path.{_≡_};
-ghost use Rattle.reading.specs.Answers.{readingOutcome, wordsOutcome, amountOutcome};
+ghost use Rattle.reading.specs.Answers.{readingOutcome, wordsOutcome, amountOutcome, analyteOutcome};
 ghost use Rattle.reading.specs.Readings.{analysedOf, readingOf, wordsOf, WordLaws};
 ghost use Rattle.reading.specs.Amounts.{amountOf, AmountLaws};
+ghost use Rattle.reading.specs.Analytes.{present, analyteFrom};
 
 // What the analyser holds for a reading, in mg/L: the form that document 01 names, a struct with two f32 fields.
 pub struct Analysed {
@@ -32,6 +33,12 @@ pub struct Words {
 // A mass concentration in whole µg/L, held apart from charge and conductivity by its type.
 pub struct Mass(pub u64);
 
+// A reading of a record with its amount, 0 where it is missing.
+pub struct Analyte {
+    pub reading: Reading,
+    pub mass: Mass,
+}
+
 // A reading, or why there is none.
 pub enum ReadingResult {
     Given(Reading),
@@ -48,6 +55,12 @@ pub enum WordsResult {
 pub enum AmountResult {
     Missing,
     Given(Mass),
+    Refused(Refusal),
+}
+
+// An analyte, or why there is none.
+pub enum AnalyteResult {
+    Given(Analyte),
     Refused(Refusal),
 }
 
@@ -75,16 +88,13 @@ impl Reading {
         ensures answer { λ r. ⌜ readingOutcome r ≡ readingOf mark bits ⌝ }
         ensures laws { λ r. ⌜ WordLaws ⌝ }
     {
-        if mark == marks::MISSING {
-            return marks::missing(bits);
+        match Analyte::from_words(mark, bits) {
+            AnalyteResult::Given(a) => {
+                let reading = a.reading;
+                ReadingResult::Given(reading)
+            }
+            AnalyteResult::Refused(why) => ReadingResult::Refused(why),
         }
-        if mark == marks::MEASURED {
-            return marks::measured(bits);
-        }
-        if mark == marks::BELOW {
-            return marks::below(bits);
-        }
-        ReadingResult::Refused(Refusal::Reading)
     }
 
     // The two words of a reading: what `from_words` reads as this reading.
@@ -127,6 +137,36 @@ impl Reading {
             Reading::Missing => AmountResult::Missing,
             Reading::Measured(x) => rounding::amount_of_value(x),
             Reading::Below(x) => rounding::amount_of_half(x),
+        }
+    }
+}
+
+impl Analyte {
+    // The reading that two words of a record hold, with its amount: both from the bits, so that these are tested and
+    // taken apart once.
+    pub fn from_words(mark: u32, bits: u32) -> AnalyteResult
+        ensures { λ r. ⌜ analyteOutcome r ≡ analyteFrom mark bits ⌝ }
+    {
+        if mark == marks::MISSING {
+            return marks::missing(bits);
+        }
+        if mark == marks::MEASURED {
+            return marks::measured(bits);
+        }
+        if mark == marks::BELOW {
+            return marks::below(bits);
+        }
+        AnalyteResult::Refused(Refusal::Reading)
+    }
+
+    pub fn is_present(self) -> bool
+        ensures { λ b. ⌜ b ≡ present (self .reading) ⌝ }
+    {
+        let reading = self.reading;
+        match reading {
+            Reading::Missing => false,
+            Reading::Measured(_) => true,
+            Reading::Below(_) => true,
         }
     }
 }

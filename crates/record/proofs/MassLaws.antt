@@ -6,8 +6,9 @@ use Rattle.refusal.specs.Outcome.{Outcome}
 use Rattle.refusal.specs.Outcome.Outcome.{given, refused}
 use Rattle.reading.specs.declared.Reading.{Reading}
 use Rattle.reading.specs.Amounts.{Amount, amountOf}
+use Rattle.reading.specs.Analytes.{massIn, massOf}
 use Rattle.reading.proofs.Laws.{amount-laws}
-use Rattle.record.specs.Record.{massIn, massOf, mostMass}
+use Rattle.record.specs.Record.{mostMass}
 
 pub mass-most : (r : Reading) → massOf r ≤ mostMass
 unfolding massOf

@@ -6,8 +6,9 @@ use Prim.Native.Nat.{ℕ, zero, suc, _+_, _*_, _<_}
 use native.Mathlib.Omega.{arith}
 use lib.Dec.{leb}
 use borrow.Author.Tests.{le-leb, leb-true}
-use Rattle.record.specs.declared.Analyte.{Analyte}
-use Rattle.record.specs.Record.{ions, readings, readingAt, present, allBelow, massAt, mostMass}
+use Rattle.reading.specs.declared.Analyte.{Analyte}
+use Rattle.reading.specs.Analytes.{present}
+use Rattle.record.specs.Record.{ions, readings, readingAt, allBelow, massAt, mostMass}
 use Rattle.record.specs.declared.TestedRecord.{TestedRecord}
 use Rattle.record.specs.Tested.{Holds}
 use Rattle.record.proofs.AllBelow.{all-same, all-each, each-all}

@@ -3,9 +3,10 @@ use mathlib.Core.Bool.{Bool, false, _&&_, cond}
 use mathlib.Core.List.{List}
 use Prim.Native.Nat.{ℕ, _≤_, _<_}
 use lib.Dec.{leb}
-use Rattle.record.specs.declared.Analyte.{Analyte}
+use Rattle.reading.specs.declared.Analyte.{Analyte}
+use Rattle.reading.specs.Analytes.{present}
 use Rattle.record.specs.declared.TestedRecord.{TestedRecord}
-use Rattle.record.specs.Record.{ions, present, mostMass, mostConductivity, mostAlkalinity, allBelow}
+use Rattle.record.specs.Record.{ions, mostMass, mostConductivity, mostAlkalinity, allBelow}
 use Rattle.record.specs.Tested.{analyteAt}
 use Rattle.solution.specs.Solutions.{Sums, sumsWith}
 

@@ -4,7 +4,8 @@ use mathlib.Core.List.{List}
 use Prim.Native.Nat.{ℕ, _+_, _*_, _%_, _^_}
 use lib.Dec.{eqb}
 use Rattle.hydrogen.specs.Floors.{floorAt}
-use Rattle.record.specs.Record.{ions, readings, sodium, chloride, phOf, conductivityOf, alkalinityOf, readingAt, present, massAt, allBelow}
+use Rattle.reading.specs.Analytes.{present}
+use Rattle.record.specs.Record.{ions, readings, sodium, chloride, phOf, conductivityOf, alkalinityOf, readingAt, massAt, allBelow}
 use Rattle.solution.specs.declared.Solution.{Solution}
 use Rattle.solution.specs.Ions.{cationCharge, anionCharge, conducted, hydrogenConductance, alkalinityCharge, alkalinityConductance, sum}
 

@@ -2,7 +2,7 @@
 use mathlib.Core.Path.{_≡_}
 use mathlib.Core.List.{List}
 use Prim.Native.Nat.{_*_, _≤_}
-use Rattle.record.specs.declared.Analyte.{Analyte}
+use Rattle.reading.specs.declared.Analyte.{Analyte}
 use Rattle.record.specs.Record.{ions as eight, readings, allBelow}
 use Rattle.solution.specs.declared.ions.Sums as ions
 use Rattle.solution.specs.Ions.{cationCharge, anionCharge, conducted, sum}

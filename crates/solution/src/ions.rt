@@ -3,8 +3,8 @@
 use crate::Charge;
 use crate::Conductivity;
 use crate::SodiumChloride;
+use reading::Analyte;
 use reading::Mass;
-use record::Analyte;
 use record::IONS;
 ghost use mathlib.Core.Path.{_≡_};
 ghost use Prim.Native.Nat.{_+_, _*_, _^_, _≤_, _<_};

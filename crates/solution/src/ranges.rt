@@ -1,5 +1,5 @@
 // Whether fields are within the ranges of a record.
-use record::Analyte;
+use reading::Analyte;
 use record::IONS;
 use record::MOST_ALKALINITY;
 use record::MOST_CONDUCTIVITY;

@@ -5,7 +5,7 @@ use mathlib.Core.List.{List}
 use Prim.Native.Nat.{ℕ, _-_, _≤_}
 use native.Mathlib.Omega.{arith}
 use lib.Dec.{leb}
-use Rattle.record.specs.declared.Analyte.{Analyte}
+use Rattle.reading.specs.declared.Analyte.{Analyte}
 use Rattle.record.specs.Record.{ions, mostMass, allBelow}
 use Rattle.record.proofs.AllBelow.{all-none, all-next}
 use Rattle.solution.specs.Held.{amountAt, areSmall}
