@@ -1,6 +1,5 @@
 -- The laws behind this crate's contracts, and the proof of the list theorem.
 mod CopyLaws
-mod CuttingLaws
 mod TakenLaws
 mod AdmissionLaws
 mod PlainLaws

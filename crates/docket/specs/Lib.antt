@@ -3,5 +3,4 @@ pub mod Passing
 pub mod Offers
 pub mod Plain
 pub mod Following
-pub mod Cutting
 pub mod Admissions

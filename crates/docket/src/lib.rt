@@ -2,7 +2,6 @@
 // at most three are taken. A layer above the judge, which rests on what the judge and the record promise and nothing else.
 mod admission;
 mod closing;
-mod cutting;
 mod offering;
 mod taking;
 
@@ -10,8 +9,7 @@ use refusal::Refusal;
 ghost use mathlib.Core.Path.{_≡_};
 ghost use Rattle.docket.specs.Terms.{docketOf, offeredOf};
 ghost use Rattle.docket.specs.Offers.{offerOf};
-ghost use Rattle.docket.specs.Following.{Fresh, docketAfter, ListTheorem};
-ghost use Rattle.docket.specs.Cutting.{records};
+ghost use Rattle.docket.specs.Following.{Fresh, ListTheorem};
 
 // How many analyses a docket takes at most.
 pub const MOST: u32 = 3;
@@ -69,18 +67,4 @@ pub fn offer(docket: Docket, words: &[u32]) -> Offered
         return offering::offer_first(docket, words);
     }
     offering::offer_repeat(docket, words)
-}
-
-// Follows a docket through a run of offers, lent as one slice: records one after the other, each offered to the docket that
-// the one before returned. A rest that is no whole record is offered as it is. Returns the last docket.
-pub fn follow(docket: Docket, words: &[u32]) -> Docket
-    ensures { λ r. ⌜ docketOf r ≡ docketAfter (docketOf docket) (records (now (words .entry))) ⌝ }
-{
-    let mut followed = docket;
-    let mut at: usize = 0;
-    while at < words.len() {
-        followed = cutting::offer_at(followed, words, at);
-        at += record::WORDS;
-    }
-    followed
 }

@@ -1,4 +1,4 @@
-// The calls of `docket`.
+// The calls of `docket` and `bottle`.
 use crate::lent;
 use crate::print;
 use docket::Answer;
@@ -69,7 +69,7 @@ pub fn offers(words: &[u32]) -> bool {
 
 // Records one after another: the fresh docket after all of them, with the record that it holds if it took any.
 pub fn follow(words: &[u32]) -> bool {
-    let after = docket::follow(docket::fresh(), words);
+    let after = bottle::follow(docket::fresh(), words);
     let state = after.state;
     print::two_numbers(b"followed ", place_of(state), after.count);
     if after.count == 0 {

@@ -3,13 +3,13 @@ use mathlib.Core.Path.{_≡_, refl, sym, _∙_}
 use Prim.Native.Nat.{_-_}
 use native.Mathlib.Omega.{arith}
 use lib.ListN.{length, drop}
 use Rattle.docket.specs.Terms.{docketOf}
 use Rattle.docket.specs.Following.{docketAfter}
-use Rattle.docket.specs.Cutting.{records}
-use Rattle.docket.proofs.CuttingLaws.{turn, ended}
+use Rattle.bottle.specs.Cutting.{records}
+use Rattle.bottle.proofs.CuttingLaws.{turn, ended}
 use borrow.Author.Needs.{needs}
-use Rattle.docket.proofs.follow.Statement.{statement}
-use Rattle.docket.proofs.follow.Tie as tie
+use Rattle.bottle.proofs.follow.Statement.{statement}
+use Rattle.bottle.proofs.follow.Tie as tie
 
 abbrev Inv-loop : tie.InvT-loop
 Inv-loop words followed₀ at₀ followed at =

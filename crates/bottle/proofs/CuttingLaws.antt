@@ -7,10 +7,10 @@ use native.Mathlib.Omega.{arith}
 use lib.ListN.{length, take, drop, length-drop, drop-of-length-le}
 use lib.Seq.{take-all, drop-drop}
 use Rattle.record.specs.Record.{recordWords}
 use Rattle.docket.specs.Terms.{DocketTerms}
 use Rattle.docket.specs.Offers.{offerOf}
 use Rattle.docket.specs.Following.{docketAfter}
-use Rattle.docket.specs.Cutting.{firstRecords, records, endOf}
+use Rattle.bottle.specs.Cutting.{firstRecords, records, endOf}
 
 -- words enough for all of them: how many are asked for makes no difference
 enough : (n m : ℕ) (s : List ℕ) → length s ≤ n → length s ≤ m → firstRecords n s ≡ firstRecords m s

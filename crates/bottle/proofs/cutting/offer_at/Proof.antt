@@ -1,10 +1,10 @@
 -- The part that is offered is the record that starts at the place.
 use mathlib.Core.Path.{ap}
 use Rattle.docket.specs.Terms.{OfferedTerms}
-use Rattle.docket.proofs.CuttingLaws.{cut}
+use Rattle.bottle.proofs.CuttingLaws.{cut}
 use borrow.Author.Needs.{needs}
-use Rattle.docket.proofs.cutting.offer_at.Statement.{statement}
-use Rattle.docket.proofs.cutting.offer_at.Tie as tie
+use Rattle.bottle.proofs.cutting.offer_at.Statement.{statement}
+use Rattle.bottle.proofs.cutting.offer_at.Tie as tie
 
 end-of-requires : tie.Need-end-of-requires
 end-of-requires c κs = search needs
