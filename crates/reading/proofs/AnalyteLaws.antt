@@ -1,5 +1,5 @@
 -- A reading with its amount: what its words give under each mark, and what was given or refused.
-use mathlib.Core.Path.{_≡_, refl, sym, ap, _∙_}
+use mathlib.Core.Path.{_≡_, sym, ap, _∙_}
 use mathlib.Core.Bool.{true}
 use Prim.Native.Nat.{ℕ}
 use lib.Ieee.{Float}
