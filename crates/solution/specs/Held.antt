@@ -36,7 +36,8 @@ noSums =
       chloride = 0;
     }
 
--- no ion's amount, no conductivity, no alkalinity and no floor is above that of every record. The floor at pH 2.00 is 10^13 u
+-- the ranges of every record: no ion's amount, conductivity, alkalinity or floor of hydrogen is greater. The floor at pH 2.00, the
+-- greatest, is 10^13 u
 abbrev pub mostFloor : ℕ
 mostFloor = 10_000_000_000_000
 
