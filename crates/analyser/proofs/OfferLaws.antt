@@ -6,8 +6,8 @@ use Rattle.refusal.specs.Outcome.{Outcome}
 use Rattle.refusal.specs.Outcome.Outcome.{given, refused}
 use Rattle.refusal.specs.Lent.{lentAfter}
 use Rattle.refusal.proofs.Outcomes.{never}
-use Rattle.judge.specs.Judgements.{Four, judgementOf}
-use Rattle.judge.proofs.Laws.{judged-length}
+use Rattle.judge.specs.Repeats.{acceptanceOf}
+use Rattle.judge.proofs.RepeatLaws.{accepted-valid}
 use Rattle.docket.specs.Terms.{DocketTerms, Reply, OfferedTerms}
 use Rattle.docket.specs.Terms.Reply.{taken}
 use Rattle.docket.specs.Offers.{answerBy, answerOf, offerBy, offerOf}
@@ -18,19 +18,19 @@ use Rattle.analyser.specs.LentDockets.{wordsAfter, offeredWords, lentAft
 use Rattle.analyser.proofs.WordLaws.{read-back}
 
 -- a record that its own tests refuse is answered with their number
-pub refused-answer : (d : DocketTerms) (s : List ℕ) (n : ℕ) → judgementOf s ≡ refused n → answerOf d s ≡ refused n
+pub refused-answer : (d : DocketTerms) (s : List ℕ) (n : ℕ) → acceptanceOf s ≡ refused n → answerOf d s ≡ refused n
 unfolding answerOf answerBy
 refused-answer d s n e = simp e
 
 -- the words hold a docket
 module _ (lent : List ℕ) (d : DocketTerms) (held : docketFrom lent ≡ given d) (s : List ℕ) where
-  offered-by : (o : Outcome Four) → judgementOf s ≡ o → offeredWords lent s ≡ wordsAfter (offerOf d s)
+  offered-by : (o : Outcome (Unit {0})) → acceptanceOf s ≡ o → offeredWords lent s ≡ wordsAfter (offerOf d s)
   unfolding offeredWords wordsAfter offerOf offerBy
-  offered-by (given v) e = simp (e, held)
+  offered-by (given accepted) e = simp (e, held)
   offered-by (refused n) e = simp (e, refused-answer d s n e)
 
   pub offered : offeredWords lent s ≡ wordsAfter (offerOf d s)
-  offered = offered-by (judgementOf s) refl
+  offered = offered-by (acceptanceOf s) refl
 
 -- the code is that of the answer
 code-by : (o : OfferedTerms) (a : Outcome Reply) → o .answer ≡ a → codeOf (wordsAfter o) ≡ codeOf (o .answer)
@@ -43,15 +43,15 @@ module _ (lent : List ℕ) (d : DocketTerms) (held : docketFrom lent ≡ given d
   code = ap codeOf (offered lent d held s) ∙ code-by (offerOf d s) (offerOf d s .answer) refl
 
   -- the words after it hold the docket after it
-  next-by : (o : Outcome Four) → judgementOf s ≡ o → (a : Outcome Reply) → answerOf d s ≡ a
+  next-by : (o : Outcome (Unit {0})) → acceptanceOf s ≡ o → (a : Outcome Reply) → answerOf d s ≡ a
       → docketFrom (lentAfter (wordsAfter (offerOf d s)) lent) ≡ given (offerOf d s .docket)
   unfolding wordsAfter offerOf offerBy
-  next-by (given v) e (given taken) h = rw h (read-back _ (judged-length s v e) lent)
+  next-by (given accepted) e (given taken) h = rw h (read-back _ (accepted-valid s e .words) lent)
   next-by (refused n) e (given taken) h = never (sym (refused-answer d s n e) ∙ h)
   next-by o e (refused n) h = rw h held
 
   next : docketFrom (lentAfter (offeredWords lent s) lent) ≡ given (offerOf d s .docket)
-  next = rw (offered lent d held s) (next-by (judgementOf s) refl (answerOf d s) refl)
+  next = rw (offered lent d held s) (next-by (acceptanceOf s) refl (answerOf d s) refl)
 
 -- offers in turn
 followed : (offers : List (List ℕ)) (lent : List ℕ) (d : DocketTerms) → docketFrom lent ≡ given d

@@ -9,7 +9,7 @@ use borrow.Author.Tests.{le-leb, lt-leb}
 use Rattle.refusal.specs.Outcome.{Outcome}
 use Rattle.refusal.specs.Outcome.Outcome.{given, refused}
 use Rattle.refusal.specs.Lent.{lentAfter}
-use Rattle.judge.specs.Judgements.{Four, judgementOf}
+use Rattle.judge.specs.Repeats.{acceptanceOf}
 use Rattle.docket.specs.Terms.{DocketTerms}
 use Rattle.docket.specs.Offers.{admits, answerBy, answerOf, offerBy, offerOf}
 use Rattle.analyser.specs.DocketWords.{docketLength, standingIn, docketAt, docketFrom}
@@ -24,8 +24,8 @@ module _ (lent s : List ℕ) where
   unfolding offeredWords docketFrom standingIn
   too-few h = simp (lt-leb docketLength (length lent) h)
 
-  pub unchanged : (o : Outcome Four) → judgementOf s ≡ o → lentAfter (offeredToNone s) lent ≡ lent
-  unchanged (given v) e = simp e
+  pub unchanged : (o : Outcome (Unit {0})) → acceptanceOf s ≡ o → lentAfter (offeredToNone s) lent ≡ lent
+  unchanged (given accepted) e = simp e
   unchanged (refused n) e = simp e
 
   -- enough for a docket d
@@ -39,14 +39,14 @@ module _ (lent s : List ℕ) where
     held h = simp (le-leb docketLength (length lent) long, a-state (getD lent 0 0) h)
 
     -- no state's: it is closed, so that the offer is refused alike
-    closed : 3 < getD lent 0 0 → (o : Outcome Four) → judgementOf s ≡ o → offeredWords lent s ≡ wordsAfter (offerOf d s)
+    closed : 3 < getD lent 0 0 → (o : Outcome (Unit {0})) → acceptanceOf s ≡ o → offeredWords lent s ≡ wordsAfter (offerOf d s)
     unfolding offeredWords docketFrom standingIn wordsAfter offerOf offerBy answerOf answerBy admits
-    closed h (given v) e = simp (e, le-leb docketLength (length lent) long, no-state (getD lent 0 0) h .0, no-state (getD lent 0 0) h .1)
+    closed h (given accepted) e = simp (e, le-leb docketLength (length lent) long, no-state (getD lent 0 0) h .0, no-state (getD lent 0 0) h .1)
     closed h (refused n) e = simp (e, refused-answer d s n e)
 
     alike-by : Dec (getD lent 0 0 ≤ 3) → offeredWords lent s ≡ wordsAfter (offerOf d s)
     alike-by (yes h) = offered lent d (held h) s
-    alike-by (no h) = closed (omega arith) (judgementOf s) refl
+    alike-by (no h) = closed (omega arith) (acceptanceOf s) refl
 
     pub alike : offeredWords lent s ≡ wordsAfter (offerOf d s)
     alike = alike-by (decLe (getD lent 0 0) 3)

@@ -7,7 +7,7 @@ use Rattle.refusal.specs.Outcome.{Outcome}
 use Rattle.refusal.specs.Outcome.Outcome.{given, refused}
 use Rattle.refusal.specs.Lent.{fitting, lentAfter}
 use Rattle.record.specs.Record.{recordWords}
-use Rattle.judge.specs.Judgements.{Four, judgementOf}
+use Rattle.judge.specs.Repeats.{acceptanceOf}
 use Rattle.docket.specs.Terms.{DocketTerms, Reply, OfferedTerms}
 use Rattle.docket.specs.Terms.Reply.{taken}
 use Rattle.docket.specs.Offers.{offerOf}
@@ -36,7 +36,7 @@ wordsAfter o = wordsBy (o .docket) (o .answer)
 -- the offer to that docket, 11 and 12. (13 cannot stand behind 11 and 12: without its words there is no docket to be tested)
 unfoldable pub offeredWords : List ℕ → List ℕ → Outcome (List ℕ)
 offeredWords lent s =
-    andThen (judgementOf s) (λ (v : Four).
+    andThen (acceptanceOf s) (λ (accepted : Unit {0}).
     andThen (docketFrom lent) (λ (d : DocketTerms).
     wordsAfter (offerOf d s)))
 

@@ -7,7 +7,7 @@ use Rattle.refusal.specs.declared.Refusal.the-variants as refusal
 use Rattle.refusal.specs.Numbers.{numberOf}
 use Rattle.refusal.specs.Outcome.{Outcome}
 use Rattle.refusal.specs.Outcome.Outcome.{refused}
-use Rattle.judge.specs.Judgements.{Four, judgementOf}
+use Rattle.judge.specs.Repeats.{acceptanceOf}
 use Rattle.docket.specs.Terms.{Standing}
 use Rattle.docket.specs.Terms.Standing.{«open», consistent, confirmed, unsettled}
 use Rattle.analyser.specs.Codes.{andThen}
@@ -18,4 +18,4 @@ standingRead n = cond (eqb n 0) «open» (cond (eqb n 1) consistent (cond (eqb n
 
 -- an offer to words that are too few for a docket
 abbrev pub offeredToNone : List ℕ → Outcome (List ℕ)
-offeredToNone s = andThen (judgementOf s) (λ (v : Four). refused (numberOf refusal.OutputLength))
+offeredToNone s = andThen (acceptanceOf s) (λ (accepted : Unit {0}). refused (numberOf refusal.OutputLength))

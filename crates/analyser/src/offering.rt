@@ -1,5 +1,5 @@
 // An offer to words that are too few for a docket.
-use judge::Judgement;
+use judge::Acceptance;
 use refusal::Refusal;
 ghost use mathlib.Core.Path.{_≡_};
 ghost use Rattle.analyser.specs.Codes.{codeOf};
@@ -9,8 +9,8 @@ ghost use Rattle.analyser.specs.Steps.{offeredToNone};
 pub fn to_none(words: &[u32]) -> u32
     ensures { λ r. ⌜ r ≡ codeOf (offeredToNone (now (words .entry))) ⌝ }
 {
-    match judge::judge(words) {
-        Judgement::Judged(_) => Refusal::OutputLength.number(),
-        Judgement::Refused(own) => own.number(),
+    match judge::test(words) {
+        Acceptance::Accepted => Refusal::OutputLength.number(),
+        Acceptance::Refused(own) => own.number(),
     }
 }

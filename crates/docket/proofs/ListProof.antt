@@ -9,12 +9,10 @@ use lib.ListN.{length}
 use borrow.Author.Tests.{ne-eqb, lt-ltb, lt-leb, le-leb, eqb-true, eqb-false}
 use Rattle.refusal.specs.Outcome.{Outcome, isGiven}
 use Rattle.refusal.specs.Outcome.Outcome.{given, refused}
-use Rattle.record.specs.Record.{sameSampleOf}
-use Rattle.judge.specs.Judgements.{Four, judgementOf}
-use Rattle.agreement.specs.Agreement.{agrees}
+use Rattle.judge.specs.Passing.{passed}
+use Rattle.judge.specs.Repeats.{sameSampleOf, agrees, acceptanceOf}
 use Rattle.docket.specs.Terms.{isOpen, DocketTerms, Reply, mostTaken}
 use Rattle.docket.specs.Terms.Reply.{taken}
-use Rattle.docket.specs.Passing.{passed}
 use Rattle.docket.specs.Offers.{admits, isOneSample, answerBy, answerOf, standingAfter, isConfirming, offerBy, offerOf}
 use Rattle.docket.specs.Plain.{lastOf, beforeLast, plainState, plainAnswerBy, plainAnswer, tookBy, tookNext, plainAfter, plainAnswers}
 use Rattle.docket.specs.Following.{Fresh, docketAfter, docketAnswers, takenIn, ListTheorem}
@@ -27,7 +25,7 @@ record Tracks (d : DocketTerms) (took : List (List ℕ)) : Type 0 where
   count : d .count ≡ length took
   most : length took ≤ mostTaken
   held : 0 < length took → d .held ≡ lastOf took
-  accepted : 0 < length took → isGiven (judgementOf (lastOf took)) ≡ true
+  accepted : 0 < length took → isGiven (acceptanceOf (lastOf took)) ≡ true
 
 -- an open one took fewer than three
 open-below : (took : List (List ℕ)) → length took ≤ mostTaken → isOpen (plainState took) ≡ true → length took < mostTaken
@@ -35,14 +33,14 @@ open-below took h e = omega (arith, open-fewer took (plainState took) refl (open
 
 module _ (d : DocketTerms) (took : List (List ℕ)) (t : Tracks d took) where
   -- the two tests of an offer: 11
-  held-accepted : (empty : Bool) → eqb (length took) 0 ≡ empty → (empty || isGiven (judgementOf (d .held))) ≡ true
+  held-accepted : (empty : Bool) → eqb (length took) 0 ≡ empty → (empty || isGiven (acceptanceOf (d .held))) ≡ true
   held-accepted true e = refl
   held-accepted false e =
       let h : 0 < length took = omega (arith, eqb-false (length took) 0 e) in
       rw (t .held h) (t .accepted h)
 
   admits-by : (opened : Bool) → isOpen (plainState took) ≡ opened
-      → (opened && (ltb (length took) mostTaken && (eqb (length took) 0 || isGiven (judgementOf (d .held))))) ≡ opened
+      → (opened && (ltb (length took) mostTaken && (eqb (length took) 0 || isGiven (acceptanceOf (d .held))))) ≡ opened
   admits-by true e = rw (lt-ltb (length took) mostTaken (open-below took (t .most) e)) (held-accepted (eqb (length took) 0) refl)
   admits-by false e = refl
 
@@ -60,14 +58,14 @@ module _ (d : DocketTerms) (took : List (List ℕ)) (t : Tracks d took) where
     unfolding isOneSample
     sample-same = rw (t .count) (sample-by (eqb (length took) 0) refl)
 
-    answer-by : (o : Outcome Four) → answerBy d s o ≡ plainAnswerBy took s o
+    answer-by : (o : Outcome (Unit {0})) → answerBy d s o ≡ plainAnswerBy took s o
     unfolding answerBy plainAnswerBy
-    answer-by (given v) = rw (admits-same, sample-same)
+    answer-by (given accepted) = rw (admits-same, sample-same)
     answer-by (refused n) = refl
 
     answer-same : answerOf d s ≡ plainAnswer took s
     unfolding answerOf plainAnswer
-    answer-same = answer-by (judgementOf s)
+    answer-same = answer-by (acceptanceOf s)
 
     -- a record is taken
     abbrev more : List (List ℕ)

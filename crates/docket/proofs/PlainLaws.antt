@@ -9,9 +9,9 @@ use lib.Dec.{leb, eqb}
 use lib.ListN.{length, getD, length-append, List·getD-append}
 use lib.Seq.{getD-append-seam}
 use borrow.Author.Tests.{eq-eqb, ne-eqb, le-leb, eqb-true, eqb-false, leb-true}
+use Rattle.judge.specs.Passing.{passed}
 use Rattle.docket.specs.Terms.{Standing, isOpen, mostTaken}
 use Rattle.docket.specs.Terms.Standing.{«open», consistent, confirmed, unsettled}
-use Rattle.docket.specs.Passing.{passed}
 use Rattle.docket.specs.Plain.{lastOf, beforeLast, lastTwoAgree, plainState}
 
 -- one more at the end

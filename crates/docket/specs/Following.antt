@@ -7,9 +7,9 @@ use Prim.Native.Nat.{ℕ, _+_, _≤_, _<_}
 use lib.ListN.{length}
 use Rattle.refusal.specs.Outcome.{Outcome}
 use Rattle.refusal.specs.Outcome.Outcome.{given, refused}
+use Rattle.judge.specs.Passing.{passed}
 use Rattle.docket.specs.Terms.{DocketTerms, Reply, mostTaken}
 use Rattle.docket.specs.Terms.Standing.{«open», consistent, confirmed, unsettled}
-use Rattle.docket.specs.Passing.{passed}
 use Rattle.docket.specs.Offers.{offerOf}
 use Rattle.docket.specs.Plain.{lastOf, lastTwoAgree, plainState, plainAfter, plainAnswers}
 

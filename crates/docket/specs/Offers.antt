@@ -7,13 +7,11 @@ use Rattle.refusal.specs.Outcome.{Outcome, demand, isGiven}
 use Rattle.refusal.specs.Outcome.Outcome.{given, refused}
 use Rattle.refusal.specs.Numbers.{numberOf}
 use Rattle.refusal.specs.declared.Refusal.the-variants as refusal
-use Rattle.record.specs.Record.{sameSampleOf}
-use Rattle.judge.specs.Judgements.{Four, judgementOf}
-use Rattle.agreement.specs.Agreement.{agrees}
+use Rattle.judge.specs.Passing.{passed}
+use Rattle.judge.specs.Repeats.{sameSampleOf, agrees, acceptanceOf}
 use Rattle.docket.specs.Terms.{Standing, isOpen, DocketTerms, Reply, OfferedTerms, mostTaken}
 use Rattle.docket.specs.Terms.Standing.{«open», consistent, confirmed, unsettled}
 use Rattle.docket.specs.Terms.Reply.{taken}
-use Rattle.docket.specs.Passing.{passed}
 
 -- it took nothing
 abbrev pub isEmpty : DocketTerms → Bool
@@ -22,22 +20,22 @@ isEmpty d = eqb (d .count) 0
 -- 11: the 'docket closed', or 'open with a count above 2, or with a count of 1 or 2 and a held record that the record's own
 -- tests refuse, which no offers produce'
 unfoldable pub admits : DocketTerms → Bool
-admits d = isOpen (d .state) && (ltb (d .count) mostTaken && (isEmpty d || isGiven (judgementOf (d .held))))
+admits d = isOpen (d .state) && (ltb (d .count) mostTaken && (isEmpty d || isGiven (acceptanceOf (d .held))))
 
 -- 12: 'the count is 1 or 2 and number or kind differs from the record held'
 unfoldable pub isOneSample : DocketTerms → List ℕ → Bool
 isOneSample d s = isEmpty d || sameSampleOf (d .held) s
 
 -- 'an offer then 11, 12', after the record's own tests
-unfoldable pub answerBy : DocketTerms → List ℕ → Outcome Four → Outcome Reply
+unfoldable pub answerBy : DocketTerms → List ℕ → Outcome (Unit {0}) → Outcome Reply
 answerBy d s (refused n) = refused n
-answerBy d s (given v) =
+answerBy d s (given accepted) =
     demand (admits d) (numberOf refusal.DocketClosed)
     (demand (isOneSample d s) (numberOf refusal.OtherSample)
     (given taken))
 
 unfoldable pub answerOf : DocketTerms → List ℕ → Outcome Reply
-answerOf d s = answerBy d s (judgementOf s)
+answerOf d s = answerBy d s (acceptanceOf s)
 
 -- where a docket stands with its count-th analysis.
 -- 'If every check is 0 or 1, it closes as consistent.'

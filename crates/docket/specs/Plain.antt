@@ -9,13 +9,11 @@ use Rattle.refusal.specs.Outcome.{Outcome, demand}
 use Rattle.refusal.specs.Outcome.Outcome.{given, refused}
 use Rattle.refusal.specs.Numbers.{numberOf}
 use Rattle.refusal.specs.declared.Refusal.the-variants as refusal
-use Rattle.record.specs.Record.{sameSampleOf}
-use Rattle.judge.specs.Judgements.{Four, judgementOf}
-use Rattle.agreement.specs.Agreement.{agrees}
+use Rattle.judge.specs.Passing.{passed}
+use Rattle.judge.specs.Repeats.{sameSampleOf, agrees, acceptanceOf}
 use Rattle.docket.specs.Terms.{Standing, isOpen, Reply, mostTaken}
 use Rattle.docket.specs.Terms.Standing.{«open», consistent, confirmed, unsettled}
 use Rattle.docket.specs.Terms.Reply.{taken}
-use Rattle.docket.specs.Passing.{passed}
 
 -- the last of the records it took, where it took any
 unfoldable pub lastOf : List (List ℕ) → List ℕ
@@ -41,15 +39,15 @@ plainState took =
 
 -- 'A slice that the record's own tests refuse is answered with their number. Else, where it isn't open, the answer is 11.'
 -- 'Else, where it took any and the slice differs from the last of them in what 12 compares, it is 12. Else the slice is taken'
-unfoldable pub plainAnswerBy : List (List ℕ) → List ℕ → Outcome Four → Outcome Reply
+unfoldable pub plainAnswerBy : List (List ℕ) → List ℕ → Outcome (Unit {0}) → Outcome Reply
 plainAnswerBy took s (refused n) = refused n
-plainAnswerBy took s (given v) =
+plainAnswerBy took s (given accepted) =
     demand (isOpen (plainState took)) (numberOf refusal.DocketClosed)
     (demand (eqb (length took) 0 || sameSampleOf (lastOf took) s) (numberOf refusal.OtherSample)
     (given taken))
 
 unfoldable pub plainAnswer : List (List ℕ) → List ℕ → Outcome Reply
-plainAnswer took s = plainAnswerBy took s (judgementOf s)
+plainAnswer took s = plainAnswerBy took s (acceptanceOf s)
 
 -- 'and put at the end'
 unfoldable pub tookBy : List (List ℕ) → List ℕ → Outcome Reply → List (List ℕ)

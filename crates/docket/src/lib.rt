@@ -1,8 +1,7 @@
 // Follows the repeats of a sample on a docket (document 01, 'The docket'): a record is offered, and is taken or refused;
-// at most three are taken. A layer above the judge, which rests on what the judge and the record promise and nothing else.
-mod admission;
-mod closing;
+// at most three are taken. A layer above the judge, which rests on what the judge promises and nothing else.
 mod offering;
+mod standing;
 mod taking;
 
 use refusal::Refusal;
@@ -27,7 +26,7 @@ pub enum State {
 pub struct Docket {
     pub state: State,
     pub count: u32,
-    pub held: [u32; record::WORDS],
+    pub held: [u32; judge::WORDS],
 }
 
 // What is answered to an offer.
@@ -51,7 +50,7 @@ pub fn fresh() -> Docket
     Docket {
         state: State::Open,
         count: 0,
-        held: [0u32; record::WORDS],
+        held: [0u32; judge::WORDS],
     }
 }
 
@@ -60,7 +59,7 @@ pub fn offer(docket: Docket, words: &[u32]) -> Offered
     ensures { λ r. ⌜ offeredOf r ≡ offerOf (docketOf docket) (now (words .entry)) ⌝ }
 {
     let state = docket.state;
-    if !admission::is_open(state) {
+    if !standing::is_open(state) {
         return offering::offer_closed(docket, words);
     }
     if docket.count == 0 {

@@ -2,16 +2,16 @@
 use crate::Answer;
 use crate::Docket;
 use crate::Offered;
-use crate::closing;
+use crate::standing;
 use judge::Verdicts;
-use record::WORDS;
+use judge::WORDS;
 ghost use mathlib.Core.Path.{_≡_};
 ghost use Prim.Native.Nat.{_<_};
 ghost use lib.ListN.{length};
-ghost use Rattle.record.specs.Record.{recordWords};
 ghost use Rattle.judge.specs.Judgements.{numbersOf};
+ghost use Rattle.judge.specs.Passing.{allPassed};
+ghost use Rattle.judge.specs.Repeats.{recordWords};
 ghost use Rattle.docket.specs.Terms.{mostTaken, offeredOf};
-ghost use Rattle.docket.specs.Passing.{allPassed};
 ghost use Rattle.docket.specs.Offers.{takenOffer};
 
 // A record with these verdicts, that agrees with the one before it or not, after so many earlier ones.
@@ -20,8 +20,8 @@ pub fn take(earlier: u32, words: &[u32], verdicts: Verdicts, confirms: bool) -> 
     ensures { λ r. ⌜ offeredOf r ≡ takenOffer earlier (now (words .entry)) (allPassed (numbersOf verdicts)) confirms ⌝ }
 {
     let count = earlier + 1;
-    let passed = closing::all_passed(verdicts);
-    let state = closing::state_after(count, passed, confirms);
+    let passed = verdicts.all_passed();
+    let state = standing::state_after(count, passed, confirms);
     let held = copied(words);
     Offered {
         docket: Docket {

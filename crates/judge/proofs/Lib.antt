@@ -1,4 +1,4 @@
--- The laws behind this crate's contracts. Other crates cite `Laws`, and nothing else of it.
+-- The laws behind this crate's contracts. Other crates cite `Laws` and `RepeatLaws`, and nothing else of it.
 mod Crossing
 mod Mixing
 mod Deciding
@@ -20,3 +20,4 @@ mod TruthProofs
 mod JudgeLaws
 mod MostLaws
 pub mod Laws
+pub mod RepeatLaws

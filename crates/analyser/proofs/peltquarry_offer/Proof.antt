@@ -4,7 +4,7 @@ use mathlib.Core.Path.{_≡_, refl, sym, _∙_}
 use native.Mathlib.Omega.{arith}
 use Rattle.refusal.specs.Outcome.Outcome.{given, refused}
 use Rattle.refusal.specs.Numbers.{numberOf}
-use Rattle.judge.specs.Judgements.{judgementOf}
+use Rattle.judge.specs.Repeats.{acceptanceOf}
 use Rattle.docket.specs.Terms.{docketOf}
 use Rattle.analyser.specs.DocketWords.{docketWords}
 use Rattle.analyser.specs.LentDockets.{wordsAfter, offeredWords}
@@ -19,7 +19,7 @@ returns c =
     let a = c .before .before .before .before .args in
     let lent = a .docket .now in
     let s = a .words .now in
-    let answer = same-answer lent (too-few lent s (search needs)) (c .to-none .ensures, sym (unchanged lent s (judgementOf s) refl)) in
+    let answer = same-answer lent (too-few lent s (search needs)) (c .to-none .ensures, sym (unchanged lent s (acceptanceOf s) refl)) in
     (answer .0, (answer .1, lent-laws))
 
 returns-2 : tie.Need-returns-2

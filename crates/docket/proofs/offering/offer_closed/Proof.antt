@@ -1,44 +1,28 @@
--- A record that its own tests accept is refused 11, any other with the number of its own test.
-use mathlib.Core.Path.{_∙_}
-use Rattle.record.proofs.TestedLaws.{tested-valid}
-use Rattle.judge.proofs.Laws.{valid-judged, refused-judged}
-use Rattle.docket.proofs.AdmissionLaws.{own-refused, closed-offer}
+-- Nothing but the record's own tests goes before 11.
+use mathlib.Core.Path.{sym, ap, _∙_}
+use Rattle.judge.specs.Repeats.{acceptanceOutcome}
+use Rattle.docket.proofs.OfferLaws.{own-refused, closed-refused}
 use borrow.Author.Needs.{needs}
 use Rattle.docket.proofs.offering.offer_closed.Statement.{statement}
 use Rattle.docket.proofs.offering.offer_closed.Tie as tie
 
-test-requires : tie.Need-test-requires
-test-requires c κs = search needs
-
-enum-told : tie.Need-enum-told
-enum-told c = search needs
-
-refused-requires : tie.Need-refused-requires
-refused-requires c κs = search needs
-
-enum-known-tested : tie.Need-enum-known-tested
-enum-known-tested c = search needs
-
-refused-requires-2 : tie.Need-refused-requires-2
-refused-requires-2 c κs = search needs
-
 returns : tie.Need-returns
 returns c = let told = c .before in
     let test = told .before .before in
-    c .refused .ensures ∙ closed-offer _ _ (valid-judged _ (tested-valid (record { answered = test .test .ensures }) (told .enum-told .given .1) .0)) (test .before .before .pre)
+    c .refused .ensures ∙ closed-refused _ _ (sym (test .test .ensures) ∙ ap acceptanceOutcome (told .enum-told .given .1)) (test .before .before .pre)
 
 returns-2 : tie.Need-returns-2
 returns-2 c = let told = c .before .before in
-    c .refused2 .ensures ∙ own-refused _ _ (refused-judged _ (record { answered = told .before .before .test .ensures }) (told .tested .given .1))
+    c .refused2 .ensures ∙ own-refused _ _ (sym (told .before .before .test .ensures) ∙ ap acceptanceOutcome (told .why .given .1))
 
 pub offer-closed-spec : {M : Type 1} → statement M
 offer-closed-spec =
     tie.close
     (tie.spec
-    test-requires
-    enum-told
-    refused-requires
-    enum-known-tested
-    refused-requires-2
+    (λ c κs. search needs)
+    (λ c. search needs)
+    (λ c κs. search needs)
+    (λ c. search needs)
+    (λ c κs. search needs)
     returns
     returns-2)

@@ -1,55 +1,61 @@
--- The admission says whether the repeat is taken; it is judged, so it has its words.
+-- By the count, and then by how the repeat compares with the record held; it is judged, so it has its words.
 use mathlib.Core.Path.{ap, _∙_}
 use native.Mathlib.Omega.{arith}
+use Rattle.judge.specs.Repeats.{comparisonOutcome}
 use Rattle.judge.proofs.Laws.{judged-length}
-use Rattle.docket.specs.Terms.{answerOutcome}
-use Rattle.docket.proofs.AdmissionLaws.{repeat-fewer, repeat-taken, repeat-refused}
+use Rattle.docket.proofs.OfferLaws.{full-refused, no-record-refused, other-refused, agreeing-taken, differing-taken}
 use borrow.Author.Needs.{needs}
 use Rattle.docket.proofs.offering.offer_judged.Statement.{statement}
 use Rattle.docket.proofs.offering.offer_judged.Tie as tie
 
-is-agreement-requires : tie.Need-is-agreement-requires
-is-agreement-requires c κs = search needs
-
-answer-requires : tie.Need-answer-requires
-answer-requires c κs = search needs
-
-enum-told : tie.Need-enum-told
-enum-told c = search needs
+returns : tie.Need-returns
+returns c = let pre = c .before .before .before .before .pre in c .refused .ensures ∙ full-refused _ _ (pre .1 .0) (pre .0) (c .before .if1 .taken)
 
 take-requires : tie.Need-take-requires
-take-requires c κs = let answer = c .before .before in
-    let pre = answer .before .before .before .pre in
-    let fewer = repeat-fewer _ _ (pre .0) (pre .1 .0) (pre .1 .1) (answer .answer .ensures) (ap answerOutcome (c .enum-told .given .1)) in
-    (judged-length _ _ (pre .1 .0), omega (arith, fewer))
+take-requires c κs = let fewer = c .before .before in (judged-length _ _ (fewer .before .before .before .pre .1 .0), omega arith)
 
-enum-known-why : tie.Need-enum-known-why
-enum-known-why c = search needs
-
-refused-requires : tie.Need-refused-requires
-refused-requires c κs = search needs
-
-returns : tie.Need-returns
-returns c = let told = c .before in
-    let answer = told .before .before in
-    let pre = answer .before .before .before .pre in
-    repeat-taken _ _ (pre .0) (pre .1 .0) (pre .1 .1) (answer .answer .ensures) (ap answerOutcome (told .enum-told .given .1)) (answer .before .is-agreement .ensures) (c .take .ensures)
+take-requires-2 : tie.Need-take-requires-2
+take-requires-2 c κs = let fewer = c .before .before in (judged-length _ _ (fewer .before .before .before .pre .1 .0), omega arith)
 
 returns-2 : tie.Need-returns-2
-returns-2 c = let told = c .before .before in
-    let answer = told .before .before in
-    let pre = answer .before .before .before .pre in
-    c .refused .ensures ∙ repeat-refused _ _ (pre .0) (pre .1 .0) (pre .1 .1) (answer .answer .ensures) (ap answerOutcome (told .why .given .1))
+returns-2 c = let told = c .before in
+    let fewer = told .before .before in
+    let pre = fewer .before .before .before .pre in
+    agreeing-taken _ _ (pre .1 .0) (pre .0) (fewer .if1 .left) (pre .1 .1) (ap comparisonOutcome (told .enum-told .given .1)) (c .take .ensures)
+
+returns-3 : tie.Need-returns-3
+returns-3 c = let told = c .before in
+    let fewer = told .before .before in
+    let pre = fewer .before .before .before .pre in
+    differing-taken _ _ (pre .1 .0) (pre .0) (fewer .if1 .left) (pre .1 .1) (ap comparisonOutcome (told .enum-told2 .given .1)) (c .take2 .ensures)
+
+returns-4 : tie.Need-returns-4
+returns-4 c = let told = c .before in
+    let fewer = told .before .before in
+    let pre = fewer .before .before .before .pre in
+    c .refused2 .ensures ∙ other-refused _ _ (pre .1 .0) (pre .0) (fewer .if1 .left) (pre .1 .1) (ap comparisonOutcome (told .enum-told3 .given .1))
+
+returns-5 : tie.Need-returns-5
+returns-5 c = let told = c .before in
+    let fewer = told .before .before in
+    let pre = fewer .before .before .before .pre in
+    c .refused3 .ensures ∙ no-record-refused _ _ (pre .1 .0) (pre .0) (fewer .if1 .left) (pre .1 .1) (ap comparisonOutcome (told .enum-told4 .given .1))
 
 pub offer-judged-spec : {M : Type 1} → statement M
 offer-judged-spec =
     tie.close
     (tie.spec
-    is-agreement-requires
-    answer-requires
-    enum-told
-    take-requires
-    enum-known-why
-    refused-requires
+    (λ c κs. search needs)
     returns
-    returns-2)
+    (λ c. search needs)
+    take-requires
+    (λ c. search needs)
+    take-requires-2
+    (λ c. search needs)
+    (λ c κs. search needs)
+    (λ c. search needs)
+    (λ c κs. search needs)
+    returns-2
+    returns-3
+    returns-4
+    returns-5)

@@ -1,7 +1,8 @@
 -- A judged record goes on to refusals 11 and 12, any other is refused with the number of its own test.
 use mathlib.Core.Path.{sym, ap, _∙_}
 use Rattle.judge.specs.Judgements.{judgementOutcome}
-use Rattle.docket.proofs.AdmissionLaws.{own-refused}
+use Rattle.judge.proofs.RepeatLaws.{judged-refuses}
+use Rattle.docket.proofs.OfferLaws.{own-refused}
 use borrow.Author.Needs.{needs}
 use Rattle.docket.proofs.offering.offer_repeat.Statement.{statement}
 use Rattle.docket.proofs.offering.offer_repeat.Tie as tie
@@ -28,7 +29,7 @@ returns c = search needs
 
 returns-2 : tie.Need-returns-2
 returns-2 c = let bound = c .before .before in
-    c .refused .ensures ∙ own-refused _ _ (sym (bound .before .before .judge-repeat .ensures .0) ∙ ap judgementOutcome (bound .judgement2 .given .1))
+    c .refused .ensures ∙ own-refused _ _ (judged-refuses _ (sym (bound .before .before .judge-repeat .ensures .0) ∙ ap judgementOutcome (bound .judgement2 .given .1)))
 
 pub offer-repeat-spec : {M : Type 1} → statement M
 offer-repeat-spec =

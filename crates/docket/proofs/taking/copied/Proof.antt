@@ -4,7 +4,7 @@ use mathlib.Core.Path.{_≡_, _∙_}
 use native.Mathlib.Omega.{arith}
 use Prim.Native.Nat.{_-_, _≤_}
 use lib.ListN.{length, take, length-set}
-use Rattle.record.specs.Record.{recordWords}
+use Rattle.judge.specs.Repeats.{recordWords}
 use Rattle.docket.proofs.CopyLaws.{one-more, all-copied}
 use Rattle.docket.proofs.taking.copied.Statement.{statement}
 use Rattle.docket.proofs.taking.copied.Tie as tie

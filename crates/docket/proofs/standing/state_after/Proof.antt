@@ -1,8 +1,8 @@
 -- Each return is what the definition picks by the tests on the way.
 use borrow.Author.Tests.{eq-eqb, ne-eqb}
 use Rattle.docket.specs.Offers.{standingAfter}
-use Rattle.docket.proofs.closing.state_after.Statement.{statement}
-use Rattle.docket.proofs.closing.state_after.Tie as tie
+use Rattle.docket.proofs.standing.state_after.Statement.{statement}
+use Rattle.docket.proofs.standing.state_after.Tie as tie
 
 returns : tie.Need-returns
 unfolding standingAfter

@@ -3,8 +3,8 @@ use mathlib.Core.Path.{ap}
 use Prim.Native.Nat.{ℕ}
 use lib.Dec.{leb}
 use borrow.Author.Needs.{needs}
-use Rattle.docket.proofs.closing.is_passed.Statement.{statement}
-use Rattle.docket.proofs.closing.is_passed.Tie as tie
+use Rattle.judge.proofs.passing.is_passed.Statement.{statement}
+use Rattle.judge.proofs.passing.is_passed.Tie as tie
 
 number-requires : tie.Need-number-requires
 number-requires c κs = search needs

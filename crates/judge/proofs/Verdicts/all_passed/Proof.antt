@@ -1,8 +1,8 @@
 -- The four answers joined are the definition's.
-use Rattle.docket.specs.Passing.{allPassed}
+use Rattle.judge.specs.Passing.{allPassed}
 use borrow.Author.Needs.{needs}
-use Rattle.docket.proofs.closing.all_passed.Statement.{statement}
-use Rattle.docket.proofs.closing.all_passed.Tie as tie
+use Rattle.judge.proofs.Verdicts.all_passed.Statement.{statement}
+use Rattle.judge.proofs.Verdicts.all_passed.Tie as tie
 
 is-passed-requires : tie.Need-is-passed-requires
 is-passed-requires c κs = search needs
