@@ -8,7 +8,7 @@ use Rattle.reading.specs.declared.Analyte.{Analyte}
 use Rattle.reading.specs.Analytes.{present}
 use Rattle.record.specs.declared.TestedRecord.{TestedRecord}
 use Rattle.record.specs.Record.{ions, allBelow}
-use Rattle.record.specs.Tested.{Fields, analyteAt, fieldsIn}
+use Rattle.record.specs.Tested.{Fields, TestedTerms, analyteAt, fieldsIn}
 use Rattle.agreement.specs.Agreement.{phAgrees, agreesBy}
 
 abbrev pub analytesAgree : Analyte → Analyte → Bool
@@ -25,12 +25,14 @@ fieldsAgree a b =
     false)
     false
 
--- the floor of hydrogen is not compared
 abbrev pub agreesIn : TestedRecord → TestedRecord → Bool
-agreesIn a b = fieldsAgree (fieldsIn a 0) (fieldsIn b 0)
+agreesIn a b = fieldsAgree (fieldsIn a) (fieldsIn b)
 
--- the first is refused before the second
-unfoldable pub comparedOf : Outcome Fields → Outcome Fields → Outcome Bool
-comparedOf (given a) (given b) = given (fieldsAgree a b)
-comparedOf (given a) (refused n) = refused n
-comparedOf (refused n) o = refused n
+-- by how the tests of each ended: the first is refused before the second
+abbrev pub comparedBy : Outcome ℕ → Outcome ℕ → Bool → Outcome Bool
+comparedBy (given h) (given k) agree = given agree
+comparedBy (given h) (refused n) agree = refused n
+comparedBy (refused n) o agree = refused n
+
+unfoldable pub comparedOf : TestedTerms → TestedTerms → Outcome Bool
+comparedOf a b = comparedBy (a .tested) (b .tested) (fieldsAgree (a .fields) (b .fields))

@@ -5,7 +5,7 @@ use record::Tested;
 use record::TestedRecord;
 use refusal::Refusal;
 ghost use mathlib.Core.Path.{_≡_};
-ghost use Rattle.record.specs.Tested.{fieldsOutcome};
+ghost use Rattle.record.specs.Tested.{termsOf};
 ghost use Rattle.agreement.specs.Agreement.{agreementOutcome, agreementOf};
 ghost use Rattle.agreement.specs.Compared.{comparedOf};
 
@@ -27,7 +27,7 @@ pub fn agree(first: &[u32], second: &[u32]) -> Agreement
 
 // Whether two records agree, by how their own tests ended and the fields that these hand on. It takes any fields.
 pub fn compare(one: TestedRecord, other: TestedRecord) -> Agreement
-    ensures { λ r. ⌜ agreementOutcome r ≡ comparedOf (fieldsOutcome one) (fieldsOutcome other) ⌝ }
+    ensures { λ r. ⌜ agreementOutcome r ≡ comparedOf (termsOf one) (termsOf other) ⌝ }
 {
     let tested = one.tested;
     if let Tested::Refused(why) = tested {

@@ -1,31 +1,55 @@
--- A reading with its amount: what its words give under each mark, and what was given or refused.
-use mathlib.Core.Path.{_≡_, sym, ap, _∙_}
-use mathlib.Core.Bool.{true}
+-- A reading with its amount: its mass by its case, what it is in and out of range, and what was given or refused.
+use mathlib.Core.Path.{_≡_, refl, sym, ap, _∙_}
+use mathlib.Core.Bool.{true, false, true≢false}
 use Prim.Native.Nat.{ℕ}
 use lib.Ieee.{Float}
 use Rattle.refusal.specs.Outcome.{Outcome}
 use Rattle.refusal.specs.Outcome.Outcome.{given, refused}
 use Rattle.refusal.proofs.Outcomes.{never}
 use Rattle.reading.specs.declared.Reading.{Reading}
-use Rattle.reading.specs.declared.Reading.the-variants.{Measured, Below}
+use Rattle.reading.specs.declared.Reading.the-variants.{Missing, Measured, Below}
 use Rattle.reading.specs.declared.Analyte.{Analyte}
 use Rattle.reading.specs.Ranges.{isValue, isLimit}
-use Rattle.reading.specs.Readings.{unless7}
-use Rattle.reading.specs.Amounts.{Amount, valueMass, halfMass, valueAmount, halfAmount}
-use Rattle.reading.specs.Analytes.{massIn, massOf, analyteOf, withAmount}
-use Rattle.reading.proofs.Tested.{gives}
+use Rattle.reading.specs.Readings.{isInRange, InRange}
+use Rattle.reading.specs.Amounts.{Amount, valueMass, halfMass, valueAmount, halfAmount, amountOf}
+use Rattle.reading.specs.Analytes.{present, massIn, massOf, analyteOf, withAmount}
+use Rattle.reading.proofs.Tested.{refuses, gives}
 
-abbrev pub with : Reading → ℕ → Analyte
-with r m = record { reading = r; mass = record { 0 = m } }
+-- ---- the mass of a reading in range
+pub missing-mass : 0 ≡ massOf Missing
+unfolding massOf
+missing-mass = refl
 
--- ---- a float in range, with its mass
-pub measured-with : (x : Float) (m : ℕ) → isValue x ≡ true → m ≡ valueMass x → given (with (Measured x) m) ≡ withAmount (unless7 (isValue x) (Measured x))
-unfolding withAmount massOf valueAmount
-measured-with x m h e = ap (λ n. given (with (Measured x) n)) (e ∙ ap massIn (gives (Amount.mass (valueMass x)) h)) ∙ ap withAmount (gives (Measured x) h)
+pub measured-mass : (x : Float) → isValue x ≡ true → valueMass x ≡ massOf (Measured x)
+unfolding massOf valueAmount
+measured-mass x h = ap massIn (gives (Amount.mass (valueMass x)) h)
 
-pub below-with : (x : Float) (m : ℕ) → isLimit x ≡ true → m ≡ halfMass x → given (with (Below x) m) ≡ withAmount (unless7 (isLimit x) (Below x))
-unfolding withAmount massOf halfAmount
-below-with x m h e = ap (λ n. given (with (Below x) n)) (e ∙ ap massIn (gives (Amount.mass (halfMass x)) h)) ∙ ap withAmount (gives (Below x) h)
+pub below-mass : (x : Float) → isLimit x ≡ true → halfMass x ≡ massOf (Below x)
+unfolding massOf halfAmount
+below-mass x h = ap massIn (gives (Amount.mass (halfMass x)) h)
+
+-- ---- its amount, by whether it is in range and there
+pub none-out-of-range : (r : Reading) → isInRange r ≡ false → refused 7 ≡ amountOf r
+unfolding valueAmount halfAmount
+none-out-of-range Missing h = absurd (true≢false h)
+none-out-of-range (Measured x) h = refuses (Amount.mass (valueMass x)) h
+none-out-of-range (Below x) h = refuses (Amount.mass (halfMass x)) h
+
+pub none-missing : (r : Reading) → present r ≡ false → given Amount.missing ≡ amountOf r
+none-missing Missing h = refl
+none-missing (Measured x) h = absurd (true≢false h)
+none-missing (Below x) h = absurd (true≢false h)
+
+pub mass-there : (r : Reading) → InRange r → present r ≡ true → given (Amount.mass (massOf r)) ≡ amountOf r
+unfolding massOf valueAmount halfAmount
+mass-there Missing h t = absurd (true≢false (sym t))
+mass-there (Measured x) h t = rw h
+mass-there (Below x) h t = rw h
+
+-- ---- a reading that was read, with its mass
+pub read-with : (o : Outcome Reading) (r : Reading) (m : ℕ) → given r ≡ o → m ≡ massOf r → given (record { reading = r; mass = record { 0 = m } }) ≡ withAmount o
+unfolding withAmount
+read-with o r m e f = rw (sym e, f)
 
 -- ---- what an answer tells
 pub was-analyte : (o : Outcome Reading) (a : Analyte) → given a ≡ withAmount o → (o ≡ given (a .reading)) × (a ≡ analyteOf (a .reading))

@@ -1,5 +1,6 @@
 // Readings of the analyser (document 01, 'A reading'): made from a value and its quantification limit, or from the
-// two words of a record, there with their amount; written back as words; and converted to an amount in whole µg/L.
+// two words of a record; written back as words; and converted to an amount in whole µg/L.
+mod amounts;
 mod marks;
 mod ranges;
 mod rounding;
@@ -88,13 +89,16 @@ impl Reading {
         ensures answer { λ r. ⌜ readingOutcome r ≡ readingOf mark bits ⌝ }
         ensures laws { λ r. ⌜ WordLaws ⌝ }
     {
-        match Analyte::from_words(mark, bits) {
-            AnalyteResult::Given(a) => {
-                let reading = a.reading;
-                ReadingResult::Given(reading)
-            }
-            AnalyteResult::Refused(why) => ReadingResult::Refused(why),
+        if mark == marks::MISSING {
+            return marks::missing(bits);
         }
+        if mark == marks::MEASURED {
+            return marks::measured(bits);
+        }
+        if mark == marks::BELOW {
+            return marks::below(bits);
+        }
+        ReadingResult::Refused(Refusal::Reading)
     }
 
     // The two words of a reading: what `from_words` reads as this reading.
@@ -128,35 +132,40 @@ impl Reading {
         }
     }
 
-    // The amount of a reading in whole µg/L; of one below its limit, that of half the limit.
+    // The amount of a reading in whole µg/L; of one below its limit, that of half the limit. A reading made by hand may
+    // hold any float, so its range is tested first.
     pub fn amount(self) -> AmountResult
         ensures answer { λ r. ⌜ amountOutcome r ≡ amountOf self ⌝ }
         ensures laws { λ r. ⌜ AmountLaws ⌝ }
     {
-        match self {
-            Reading::Missing => AmountResult::Missing,
-            Reading::Measured(x) => rounding::amount_of_value(x),
-            Reading::Below(x) => rounding::amount_of_half(x),
+        if !ranges::is_in_range(self) {
+            return AmountResult::Refused(Refusal::Reading);
         }
+        let mass = amounts::of_reading(self);
+        let analyte = Analyte {
+            reading: self,
+            mass,
+        };
+        if !analyte.is_present() {
+            return AmountResult::Missing;
+        }
+        AmountResult::Given(mass)
     }
 }
 
 impl Analyte {
-    // The reading that two words of a record hold, with its amount: both from the bits, so that these are tested and
-    // taken apart once.
+    // The reading that two words of a record hold, with its amount. What was read is in range, so that its float is
+    // tested once.
     pub fn from_words(mark: u32, bits: u32) -> AnalyteResult
         ensures { λ r. ⌜ analyteOutcome r ≡ analyteFrom mark bits ⌝ }
     {
-        if mark == marks::MISSING {
-            return marks::missing(bits);
+        match Reading::from_words(mark, bits) {
+            ReadingResult::Given(reading) => AnalyteResult::Given(Analyte {
+                reading,
+                mass: amounts::of_reading(reading),
+            }),
+            ReadingResult::Refused(why) => AnalyteResult::Refused(why),
         }
-        if mark == marks::MEASURED {
-            return marks::measured(bits);
-        }
-        if mark == marks::BELOW {
-            return marks::below(bits);
-        }
-        AnalyteResult::Refused(Refusal::Reading)
     }
 
     pub fn is_present(self) -> bool

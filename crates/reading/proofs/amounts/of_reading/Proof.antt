@@ -1,0 +1,55 @@
+-- By the case of the reading; the product of a limit by 0.5 is a value, and exactly half of it.
+use mathlib.Core.Path.{sym, ap, _∙_, subst}
+use lib.Dec.{T}
+use Rattle.reading.specs.Readings.{isInRange}
+use Rattle.reading.specs.Analytes.{massOf}
+use Rattle.reading.proofs.Half.{exact-half}
+use Rattle.reading.proofs.AnalyteLaws.{missing-mass, measured-mass, below-mass}
+use borrow.Author.Needs.{needs}
+use Rattle.reading.proofs.amounts.of_reading.Statement.{statement}
+use Rattle.reading.proofs.amounts.of_reading.Tie as tie
+
+-- the amounts first, so that a wrong one is said before what its call requires
+returns : tie.Need-returns
+returns c = missing-mass ∙ sym (ap massOf (c .enum-told .given .1))
+
+returns-2 : tie.Need-returns-2
+returns-2 c =
+    let told = c .before .before .reading .given .1 in
+    c .mass-of-value .ensures ∙ measured-mass _ (sym (ap isInRange told) ∙ c .before .before .before .before .pre) ∙ sym (ap massOf told)
+
+returns-3 : tie.Need-returns-3
+returns-3 c =
+    let told = c .before .before .reading2 .given .1 in
+    let limit = sym (ap isInRange told) ∙ c .before .before .before .before .pre in
+    let held = subst T (sym (c .before .known-told2 .given .0 .1)) tt in
+    c .mass-of-value2 .ensures ∙ exact-half _ held limit .amount ∙ below-mass _ limit ∙ sym (ap massOf told)
+
+enum-told : tie.Need-enum-told
+enum-told c = search needs
+
+enum-known-reading : tie.Need-enum-known-reading
+enum-known-reading c = search needs
+
+mass-of-value-requires : tie.Need-mass-of-value-requires
+mass-of-value-requires c κs = sym (ap isInRange (c .before .reading .given .1)) ∙ c .before .before .before .pre
+
+enum-known-reading-2 : tie.Need-enum-known-reading-2
+enum-known-reading-2 c = search needs
+
+mass-of-value-requires-2 : tie.Need-mass-of-value-requires-2
+mass-of-value-requires-2 c κs =
+    exact-half _ (subst T (sym (c .known-told2 .given .0 .1)) tt) (sym (ap isInRange (c .before .reading2 .given .1)) ∙ c .before .before .before .pre) .value
+
+pub of-reading-spec : {M : Type 1} → statement M
+of-reading-spec =
+    tie.close
+    (tie.spec
+    enum-told
+    enum-known-reading
+    mass-of-value-requires
+    enum-known-reading-2
+    mass-of-value-requires-2
+    returns
+    returns-2
+    returns-3)
