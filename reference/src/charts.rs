@@ -138,15 +138,35 @@ pub fn last_signal(setup: &[u32], later: &[u32]) -> Result<u32, Refusal> {
 #[cfg(test)]
 mod tests {
     use super::*;
-    use crate::cases::charts::{every_sum, WIDE};
+    use crate::cases::charts::{every_sum, Worked, WIDE};
+    use crate::cases::charts::{PAIRS_BEYOND_TWO, RISING_THROUGH_THE_LIMITS, WITHOUT_VARIANCE};
 
     /// Mean 1,000; two deviations are 4 exactly, three are 6 exactly.
     const SETUP: [u32; 10] = [1003, 997, 1003, 997, 1000, 1000, 1000, 1000, 1000, 1000];
 
     fn words(later: &[u32]) -> Vec<u32> {
+        words_by(&SETUP, later)
+    }
+
+    fn words_by(setup: &[u32], later: &[u32]) -> Vec<u32> {
         let mut output = vec![99; later.len()];
-        assert_eq!(signals(&SETUP, later, &mut output), Ok(later.len()));
+        assert_eq!(signals(setup, later, &mut output), Ok(later.len()));
         output
+    }
+
+    fn assert_worked((setup, later, expected): Worked) {
+        assert_eq!(words_by(&setup, later), expected);
+        assert_eq!(last_signal(&setup, later).ok().as_ref(), expected.last());
+    }
+
+    #[test]
+    fn rising_through_the_limits() {
+        assert_worked(RISING_THROUGH_THE_LIMITS);
+    }
+
+    #[test]
+    fn pairs_beyond_two() {
+        assert_worked(PAIRS_BEYOND_TWO);
     }
 
     #[test]
@@ -196,6 +216,7 @@ mod tests {
         let mut output = [99; 3];
         let answer = signals(&[5; 10], &[5, 6, 4], &mut output);
         assert_eq!((answer, output), (Ok(3), [0, 1, 1]));
+        assert_worked(WITHOUT_VARIANCE);
     }
 
     #[test]

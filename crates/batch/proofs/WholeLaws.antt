@@ -26,7 +26,7 @@ use Rattle.words.proofs.ManyLaws.{then-taken, then-refused}
 use Rattle.controls.specs.declared.Ended.the-variants as ended
 use Rattle.controls.specs.declared.ChartColumns.{ChartColumns}
 use Rattle.controls.specs.Controls.{Chart, elementsOf, signalsIn, chartsOf}
-use Rattle.controls.specs.Columns.{columnsOf, columnsOutcome}
+use Rattle.controls.specs.Columns.{columnsOf, termsOf}
 use Rattle.controls.proofs.Laws.{Held, columns-held, columns-refused}
 use Rattle.batch.specs.Batches.{Sample, samplesOf, nothingLeft, batchOf}
 use Rattle.batch.specs.Rows.{answeredBy, rowsOf, batchAnswer}
@@ -89,7 +89,7 @@ charts-taken s rest cs e = by-samples (samplesOf rest) ∙ sym (ap answeredBy (t
 
 -- how reading the charts ended: the batch is refused, or its samples are judged. The columns and the words are those that the
 -- code lends
-module _ (s : List ℕ) (columns : ChartColumns) (m : columnsOutcome columns ≡ columnsOf s) where
+module _ (s : List ℕ) (columns : ChartColumns) (m : termsOf columns ≡ columnsOf s) where
   pub read-refused : (old : List ℕ) (why : Refusal) → columns .ended ≡ ended.Refused why → Done (batchAnswer s) old (written.Refused why) old
   read-refused old why e = refused-before (batchAnswer s) old (numberOf why) (sym (charts-refused s (numberOf why) (columns-refused s columns m e)))
 

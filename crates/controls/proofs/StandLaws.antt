@@ -1,4 +1,5 @@
--- What was read: the words of a chart stand at the front, and so do those of the charts' section.
+-- What was read: the words of a chart stand at the front, and so do those of the charts' section, which are no more than a batch may
+-- have.
 use mathlib.Core.Path.{_≡_, sym, ap, _∙_}
 use mathlib.Core.Bool.{Bool}
 use mathlib.Core.List.{List, [], _∷_, _++_}
@@ -50,5 +51,9 @@ chart-taken before s c rest h =
     let p = row-given tests (valuesOf e setup later (drop 3 s)) (c, rest) h in
     (tt, three-words s (leb-true 3 (length s) (p .0 .0)) ∙ values-taken e setup later (drop 3 s) c rest (p .1))
 
-pub charts-stand : (s : List ℕ) (cs : List Chart) (rest : List ℕ) → chartsOf s ≡ taken cs rest → s ≡ sectionWords chartWords cs ++ rest
-charts-stand s cs rest e = section-taken (λ (c : Chart). Unit {0}) chartWords _ chart-taken mostCharts s cs rest e .2
+module _ (s : List ℕ) (cs : List Chart) (rest : List ℕ) (read : chartsOf s ≡ taken cs rest) where
+  pub charts-few : length cs ≤ mostCharts
+  charts-few = section-taken (λ (c : Chart). Unit {0}) chartWords _ chart-taken mostCharts s cs rest read .0
+
+  pub charts-stand : s ≡ sectionWords chartWords cs ++ rest
+  charts-stand = section-taken (λ (c : Chart). Unit {0}) chartWords _ chart-taken mostCharts s cs rest read .2

@@ -1,37 +1,45 @@
--- What is answered to the charts' section at the front of words: the charts as two columns, each one's element and its last signal,
--- how many they are and how many words they take; or the number of a refusal.
-use mathlib.Core.List.{List}
+-- What is answered to the charts' section at the front of words, the whole of it: how reading it ended, how many charts there are, and
+-- two columns, each one's element and its last signal.
+use mathlib.Core.List.{List, [], _++_}
 use Prim.Native.Nat.{ℕ, _-_}
-use lib.ListN.{length, take}
+use lib.ListN.{length, replicate}
 use Rattle.refusal.specs.Outcome.{Outcome}
 use Rattle.refusal.specs.Outcome.Outcome.{given, refused}
 use Rattle.refusal.specs.Numbers.{numberOf}
-use Rattle.words.specs.FromFront.{then}
+use Rattle.words.specs.FromFront.{Read}
 use Rattle.controls.specs.declared.Ended.{Ended}
 use Rattle.controls.specs.declared.Ended.the-variants as ended
 use Rattle.controls.specs.declared.ChartColumns.{ChartColumns}
-use Rattle.controls.specs.Controls.{Chart, elementsOf, signalsIn, chartsOf}
+use Rattle.controls.specs.Controls.{Chart, mostCharts, elementsOf, signalsIn, chartsOf}
 
-pub record Columns : Type 0 where
+pub record ColumnTerms : Type 0 where
+  -- with so many words, or by the number of a refusal
+  pub ended : Outcome ℕ
   pub count : ℕ
   pub elements : List ℕ
   pub signals : List ℕ
-  pub size : ℕ
 
--- of the charts cs at the front of the words s, with the words rest after them
-abbrev pub columnsWith : List ℕ → List Chart → List ℕ → Columns
-columnsWith s cs rest = record { count = length cs; elements = elementsOf cs; signals = signalsIn cs; size = length s - length rest }
+-- 'charts (0 to 10 ..)': a column has a place for each. What the charts have comes first, and beyond the last of them is 0
+abbrev pub column : List ℕ → List ℕ
+column entries = entries ++ replicate (mostCharts - length entries) 0
 
-unfoldable pub columnsOf : List ℕ → Outcome Columns
-columnsOf s = then (chartsOf s) (λ cs rest. given (columnsWith s cs rest))
+-- reading ended so, and these are the charts
+abbrev pub columnsWith : Outcome ℕ → List Chart → ColumnTerms
+columnsWith end cs = record { ended = end; count = length cs; elements = column (elementsOf cs); signals = column (signalsIn cs) }
 
--- what was answered
-abbrev pub columnsIn : ChartColumns → ℕ → Columns
-columnsIn r size = record { count = r .count; elements = take (r .count) (r .elements); signals = take (r .count) (r .signals); size = size }
+-- by what was read at the front of the words s: the charts, and how many words they take; or, as 'A refusal returns its number,
+-- nothing else changes', that number and no chart: count 0, and 0 in every place
+abbrev pub columnsBy : List ℕ → Read (List Chart) → ColumnTerms
+columnsBy s (given p) = columnsWith (given (length s - length (p .1))) (p .0)
+columnsBy s (refused n) = columnsWith (refused n) []
 
-abbrev pub columnsBy : ChartColumns → Ended → Outcome Columns
-columnsBy r (ended.Whole size) = given (columnsIn r size)
-columnsBy r (ended.Refused why) = refused (numberOf why)
+unfoldable pub columnsOf : List ℕ → ColumnTerms
+columnsOf s = columnsBy s (chartsOf s)
 
-abbrev pub columnsOutcome : ChartColumns → Outcome Columns
-columnsOutcome r = columnsBy r (r .ended)
+-- what was answered, in these terms
+abbrev pub endOf : Ended → Outcome ℕ
+endOf (ended.Whole size) = given size
+endOf (ended.Refused why) = refused (numberOf why)
+
+abbrev pub termsOf : ChartColumns → ColumnTerms
+termsOf r = record { ended = endOf (r .ended); count = r .count; elements = r .elements; signals = r .signals }

@@ -6,15 +6,17 @@ use crate::first;
 use crate::first::ChartRead;
 use refusal::Refusal;
 ghost use mathlib.Core.Path.{_≡_};
+ghost use mathlib.Core.List.{[]};
 ghost use Prim.Native.Nat.{_≤_};
 ghost use lib.ListN.{length, getD};
+ghost use Rattle.refusal.specs.Outcome.Outcome.{refused};
+ghost use Rattle.refusal.specs.Numbers.{numberOf};
 ghost use Rattle.controls.specs.Controls.{mostCharts};
-ghost use Rattle.controls.specs.Columns.{columnsOf, columnsOutcome};
-ghost use Rattle.controls.specs.declared.Ended.the-variants.{Refused};
+ghost use Rattle.controls.specs.Columns.{columnsWith, columnsOf, termsOf};
 
 // Why there are no charts.
 pub fn refused(why: Refusal) -> ChartColumns
-    ensures { λ r. ⌜ r .ended ≡ Refused why ⌝ }
+    ensures { λ r. ⌜ termsOf r ≡ columnsWith (refused (numberOf why)) [] ⌝ }
 {
     ChartColumns {
         ended: Ended::Refused(why),
@@ -27,7 +29,7 @@ pub fn refused(why: Refusal) -> ChartColumns
 // Reads so many charts, after the section's count.
 pub fn read_all(words: &[u32], count: usize) -> ChartColumns
     requires { ⌜ (1 ≤ length (now words)) × (getD (now words) 0 0 ≡ count) × (count ≤ mostCharts) ⌝ }
-    ensures { λ r. ⌜ columnsOutcome r ≡ columnsOf (now (words .entry)) ⌝ }
+    ensures { λ r. ⌜ termsOf r ≡ columnsOf (now (words .entry)) ⌝ }
 {
     let mut elements = [0u32; MOST_CHARTS];
     let mut signals = [0u32; MOST_CHARTS];

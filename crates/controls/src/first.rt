@@ -31,12 +31,14 @@ pub fn read_one(words: &[u32], used: &[u32]) -> ChartRead
         return ChartRead::Refused(Refusal::BatchLength);
     }
     let element = words[0];
-    if !elements::is_new_element(used, element) {
-        return ChartRead::Refused(Refusal::Chart);
-    }
     let setup = wide(words[1]);
     let later = wide(words[2]);
-    if !values::counts_fit(setup, later) {
+    let is_new = elements::is_new_element(used, element);
+    let fits = values::counts_fit(setup, later);
+    if !is_new {
+        return ChartRead::Refused(Refusal::Chart);
+    }
+    if !fits {
         return ChartRead::Refused(Refusal::Count);
     }
     read_values(words, element, setup, later)

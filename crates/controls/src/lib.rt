@@ -5,7 +5,7 @@ mod first;
 
 use refusal::Refusal;
 ghost use mathlib.Core.Path.{_≡_};
-ghost use Rattle.controls.specs.Columns.{columnsOf, columnsOutcome};
+ghost use Rattle.controls.specs.Columns.{columnsOf, termsOf};
 
 pub const MOST_CHARTS: usize = 10;
 
@@ -15,7 +15,8 @@ pub enum Ended {
     Refused(Refusal),
 }
 
-// How it ended, how many charts there are, and each one's element and last signal.
+// How it ended, how many charts there are, and each one's element and last signal, with 0 in the places beyond. After a refusal
+// there is no chart.
 pub struct ChartColumns {
     pub ended: Ended,
     pub count: usize,
@@ -25,7 +26,7 @@ pub struct ChartColumns {
 
 // Reads the charts' section at the front of the words.
 pub fn read(words: &[u32]) -> ChartColumns
-    ensures { λ r. ⌜ columnsOutcome r ≡ columnsOf (now (words .entry)) ⌝ }
+    ensures { λ r. ⌜ termsOf r ≡ columnsOf (now (words .entry)) ⌝ }
 {
     if words.len() < 1 {
         return charts::refused(Refusal::BatchLength);

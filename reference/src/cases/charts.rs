@@ -9,6 +9,32 @@ const SETUP: [u32; 10] = [1003, 997, 1003, 997, 1000, 1000, 1000, 1000, 1000, 10
 pub const WIDE: [u32; 10] = [1030, 970, 1030, 970, 1000, 1000, 1000, 1000, 1000, 1000];
 /// Mean 1,000 and no variance.
 const FLAT: [u32; 10] = [1000; 10];
+/// Mean 100, a deviation of 1.49.
+const AROUND_HUNDRED: [u32; 10] = [98, 99, 100, 101, 102, 98, 99, 100, 101, 102];
+/// Mean 100 and no variance.
+const ALL_HUNDRED: [u32; 10] = [100; 10];
+
+/// A chart worked by hand: its setup values, its later values and their signal
+/// words.
+pub type Worked = ([u32; 10], &'static [u32], &'static [u32]);
+
+/// 103 is beyond 2 and 105 beyond 3; the seventh value ends seven that rise,
+/// the eighth also seven above the mean.
+pub const RISING_THROUGH_THE_LIMITS: Worked = (
+    AROUND_HUNDRED,
+    &[100, 101, 102, 103, 104, 105, 106, 107],
+    &[0, 0, 0, 0, 2, 3, 11, 15],
+);
+/// Beyond 2 on one side and then on the other is no pair; two places before it
+/// is near enough, three are not.
+pub const PAIRS_BEYOND_TWO: Worked = (
+    AROUND_HUNDRED,
+    &[103, 97, 103, 100, 100, 103, 97, 97],
+    &[0, 0, 2, 0, 0, 0, 0, 2],
+);
+/// Without variance every value off the mean is beyond; a value on the mean
+/// has no side.
+pub const WITHOUT_VARIANCE: Worked = (ALL_HUNDRED, &[100, 101, 99, 100, 99], &[0, 1, 1, 0, 3]);
 
 pub fn all(cases: &mut Cases) {
     counts(cases);
@@ -20,6 +46,7 @@ pub fn all(cases: &mut Cases) {
     two_beyond(cases);
     seven_on_one_side(cases);
     seven_in_one_direction(cases);
+    worked(cases);
     for (_, later) in every_sum() {
         add(cases, &WIDE, &later);
         let mirrored: Vec<u32> = later.iter().map(|value| 2_000 - value).collect();
@@ -196,6 +223,16 @@ fn seven_in_one_direction(cases: &mut Cases) {
     add(cases, &SETUP, &above);
     let below: Vec<u32> = (992..1000).rev().collect();
     add(cases, &SETUP, &below);
+}
+
+fn worked(cases: &mut Cases) {
+    for (setup, later, _) in [
+        RISING_THROUGH_THE_LIMITS,
+        PAIRS_BEYOND_TWO,
+        WITHOUT_VARIANCE,
+    ] {
+        add(cases, &setup, later);
+    }
 }
 
 /// Every signal word from 0 to 15 with seven later values that end with it.

@@ -14,7 +14,7 @@ abbrev μ-loop : tie.MeasureT-loop
 μ-loop words count elements₀ signals₀ at₀ i₀ elements signals at i = count - i
 
 loop-holds : tie.Need-loop-holds Inv-loop μ-loop
-loop-holds c = charts-begun _ _ _ _ (search needs) (search needs) (c .before .pre)
+loop-holds c = charts-begun _ _ (c .before .pre)
 
 mul-read-one : tie.Need-mul-read-one Inv-loop μ-loop
 mul-read-one c = search needs

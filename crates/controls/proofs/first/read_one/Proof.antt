@@ -12,12 +12,6 @@ returns c = chart-short _ _ (c .if1 .taken)
 shared-slice-read-element : tie.Need-shared-slice-read-element
 shared-slice-read-element c = search needs
 
-is-new-element-requires : tie.Need-is-new-element-requires
-is-new-element-requires c κs = search needs
-
-returns-2 : tie.Need-returns-2
-returns-2 c = chart-not-new _ _ (c .before .before .before .if1 .left) (failed (c .before .is-new-element .ensures) (c .if2 .taken))
-
 shared-slice-read-wide : tie.Need-shared-slice-read-wide
 shared-slice-read-wide c = search needs
 
@@ -30,33 +24,45 @@ shared-slice-read-wide-2 c = search needs
 wide-requires-2 : tie.Need-wide-requires-2
 wide-requires-2 c κs = search needs
 
+is-new-element-requires : tie.Need-is-new-element-requires
+is-new-element-requires c κs = search needs
+
 counts-fit-requires : tie.Need-counts-fit-requires
 counts-fit-requires c κs = search needs
 
+returns-2 : tie.Need-returns-2
+returns-2 c =
+    let new = c .before .before in
+    let words = new .before .before .before .before .before .before in
+    chart-not-new _ _ (words .if1 .left) (failed (new .is-new-element .ensures) (c .if2 .taken))
+
 returns-3 : tie.Need-returns-3
 returns-3 c =
-    let later = c .before .before in
+    let fit = c .before .before in
+    let new = fit .before in
+    let later = new .before in
     let setup = later .before .before in
-    let new = setup .before .before in
-    let words = new .before .before .before in
-    let isNew = passed (new .before .is-new-element .ensures) (new .if2 .left) in
-    chart-not-fit _ _ (words .if1 .left) (setup .wide .ensures) (later .wide2 .ensures) isNew (failed (c .before .counts-fit .ensures) (c .if3 .taken))
+    let words = setup .before .before .before in
+    let isNew = passed (new .is-new-element .ensures) (c .before .if2 .left) in
+    chart-not-fit _ _ (words .if1 .left) (setup .wide .ensures) (later .wide2 .ensures) isNew (failed (fit .counts-fit .ensures) (c .if3 .taken))
 
 read-values-requires : tie.Need-read-values-requires
 read-values-requires c κs =
-    let new = c .before .before .before .before .before .before in
-    (new .before .before .before .if1 .left, passed (c .before .counts-fit .ensures) (c .if3 .left))
+    let fit = c .before .before in
+    let words = fit .before .before .before .before .before .before .before in
+    (words .if1 .left, passed (fit .counts-fit .ensures) (c .if3 .left))
 
 returns-4 : tie.Need-returns-4
 returns-4 c =
-    let fit = c .before in
-    let later = fit .before .before in
+    let tests = c .before in
+    let fit = tests .before .before in
+    let new = fit .before in
+    let later = new .before in
     let setup = later .before .before in
-    let new = setup .before .before in
-    let words = new .before .before .before in
+    let words = setup .before .before .before in
     let args = words .before .before .before .args in
-    let isNew = passed (new .before .is-new-element .ensures) (new .if2 .left) in
-    let fits = passed (fit .before .counts-fit .ensures) (fit .if3 .left) in
+    let isNew = passed (new .is-new-element .ensures) (tests .before .if2 .left) in
+    let fits = passed (fit .counts-fit .ensures) (tests .if3 .left) in
     let e = chart-values (now (args .used)) (now (args .words)) (words .if1 .left) (setup .wide .ensures) (later .wide2 .ensures) isNew fits in
     rw e (c .read-values .ensures)
 
@@ -66,13 +72,13 @@ read-one-spec =
     (tie.spec
     returns
     shared-slice-read-element
-    is-new-element-requires
-    returns-2
     shared-slice-read-wide
     wide-requires
     shared-slice-read-wide-2
     wide-requires-2
+    is-new-element-requires
     counts-fit-requires
+    returns-2
     returns-3
     read-values-requires
     returns-4)

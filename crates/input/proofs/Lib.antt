@@ -1,0 +1,2 @@
+-- The law behind this crate's contracts.
+mod CameLaws
