@@ -8,9 +8,9 @@ use lib.Dec.{eqb}
 use lib.ListN.{length, getD, drop, drop-of-length-le}
 use lib.Seq.{drop-cons}
 use Rattle.record.specs.Record.{hasReading}
-use Rattle.controls.specs.Controls.{Chart, elementsOf, signalsIn}
+use Rattle.chart_section.specs.ChartSection.{Chart, elementsOf, signalsIn}
 use Rattle.batch.specs.Rows.{flagged}
-use Rattle.batch.specs.Said.{flaggedBy}
+use Rattle.batch.specs.Steps.{flaggedBy}
 
 -- the chart i of the columns
 module _ (es gs w : List ℕ) (i : ℕ) (he : i < length es) (hg : i < length gs) where

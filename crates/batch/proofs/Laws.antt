@@ -12,7 +12,7 @@ use Rattle.refusal.specs.Outcome.Outcome.{given, refused}
 use Rattle.refusal.proofs.Outcomes.{never}
 use Rattle.judge.proofs.Laws.{judged-valid, judged-most}
 use Rattle.words.proofs.TakenLaws.{Every}
-use Rattle.controls.specs.Controls.{Chart}
+use Rattle.chart_section.specs.ChartSection.{Chart}
 use Rattle.batch.specs.Batches.{Sample, Batch, batchOf}
 use Rattle.batch.specs.Rows.{rowWords, flagged, rowOf, rowsOf, answerOf, answeredBy, batchAnswer, SmallRow, Listed}
 use Rattle.batch.specs.Layout.{ReadsItsLayout}

@@ -15,7 +15,7 @@ use Rattle.judge.specs.Judgements.{Four, judgementOf}
 use Rattle.batch.specs.Batches.{Sample, mostSamples, sampleOf, samplesOf}
 use Rattle.batch.specs.Rows.{rowWords, rowWith}
 use Rattle.refusal.specs.Lent.{placed}
-use Rattle.batch.specs.Said.{bufferWords, flaggedBy, rowBy, rowsBy, samplesAnswer}
+use Rattle.batch.specs.Steps.{bufferWords, flaggedBy, rowBy, rowsBy, samplesAnswer}
 use Rattle.refusal.proofs.PlaceLaws.{placed-take, length-placed}
 use Rattle.words.specs.FromFront.{Read, taken, many}
 use Rattle.words.specs.Room.{placedWithin}

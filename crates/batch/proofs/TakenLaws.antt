@@ -17,8 +17,8 @@ use Rattle.judge.specs.Judgements.{Four, judgementOf}
 use Rattle.words.specs.FromFront.{taken}
 use Rattle.words.specs.Sections.{sectionWords}
 use Rattle.words.proofs.TakenLaws.{then-given, taken-same, Every, Stands, section-taken}
-use Rattle.controls.specs.Controls.{chartsOf, chartWords}
-use Rattle.controls.proofs.Laws.{charts-stand}
+use Rattle.chart_section.specs.ChartSection.{chartsOf, chartWords}
+use Rattle.chart_section.proofs.Laws.{charts-stand}
 use Rattle.batch.specs.Batches.{Sample, Batch, mostSamples, sampleBy, sampleOf, samplesOf, batchOf}
 use Rattle.batch.specs.Layout.{sampleWords, layout}
 

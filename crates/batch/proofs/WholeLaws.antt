@@ -23,14 +23,14 @@ use Rattle.words.specs.Room.{placedWithin}
 use Rattle.words.proofs.Laws.{placed-all}
 use Rattle.words.proofs.SliceLaws.{rest-of, front-of}
 use Rattle.words.proofs.ManyLaws.{then-taken, then-refused}
-use Rattle.controls.specs.declared.Ended.the-variants as ended
-use Rattle.controls.specs.declared.ChartColumns.{ChartColumns}
-use Rattle.controls.specs.Controls.{Chart, elementsOf, signalsIn, chartsOf}
-use Rattle.controls.specs.Columns.{columnsOf, termsOf}
-use Rattle.controls.proofs.Laws.{Held, columns-held, columns-refused}
+use Rattle.chart_section.specs.declared.Ended.the-variants as ended
+use Rattle.chart_section.specs.declared.ChartColumns.{ChartColumns}
+use Rattle.chart_section.specs.ChartSection.{Chart, elementsOf, signalsIn, chartsOf}
+use Rattle.chart_section.specs.Columns.{columnsOf, termsOf}
+use Rattle.chart_section.proofs.Laws.{Held, columns-held, columns-refused}
 use Rattle.batch.specs.Batches.{Sample, samplesOf, nothingLeft, batchOf}
 use Rattle.batch.specs.Rows.{answeredBy, rowsOf, batchAnswer}
-use Rattle.batch.specs.Said.{rowsBy, samplesAnswer, MadeSaid}
+use Rattle.batch.specs.Steps.{rowsBy, samplesAnswer, MadeSaid}
 use Rattle.batch.proofs.FlagLaws.{flag-same}
 
 -- what is returned and what the lent slice then holds, where x was to be answered and the slice was old

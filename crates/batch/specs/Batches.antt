@@ -12,7 +12,7 @@ use Rattle.refusal.specs.declared.Refusal.the-variants as refusal
 use Rattle.record.specs.Record.{recordWords}
 use Rattle.judge.specs.Judgements.{Four, judgementOf}
 use Rattle.words.specs.FromFront.{Read, taken, then, whole, section}
-use Rattle.controls.specs.Controls.{Chart, chartsOf}
+use Rattle.chart_section.specs.ChartSection.{Chart, chartsOf}
 
 -- a sample: its record, and the verdicts on it
 pub record Sample : Type 0 where

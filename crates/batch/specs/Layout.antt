@@ -5,7 +5,7 @@ use mathlib.Core.List.{List, _++_}
 use Prim.Native.Nat.{ℕ}
 use Rattle.refusal.specs.Outcome.Outcome.{given}
 use Rattle.words.specs.Sections.{sectionWords}
-use Rattle.controls.specs.Controls.{chartWords}
+use Rattle.chart_section.specs.ChartSection.{chartWords}
 use Rattle.batch.specs.Batches.{Sample, Batch, batchOf}
 
 abbrev pub sampleWords : Sample → List ℕ

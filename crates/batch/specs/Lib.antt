@@ -1,4 +1,4 @@
 pub mod Batches
 pub mod Rows
-pub mod Said
+pub mod Steps
 pub mod Layout

@@ -10,7 +10,7 @@ use Rattle.refusal.specs.Outcome.{Outcome}
 use Rattle.refusal.specs.Outcome.Outcome.{given, refused}
 use Rattle.record.specs.Record.{sampleNumber, hasReading}
 use Rattle.judge.specs.Judgements.{Four}
-use Rattle.controls.specs.Controls.{Chart, signalOf}
+use Rattle.chart_section.specs.ChartSection.{Chart, signalOf}
 use Rattle.batch.specs.Batches.{Sample, Batch, mostSamples, batchOf}
 
 -- 'six words a sample'

@@ -2,7 +2,7 @@
 mod rows;
 mod samples;
 
-use controls::Ended;
+use chart_section::Ended;
 use refusal::Refusal;
 use refusal::Written;
 ghost use mathlib.Core.Path.{_≡_};
@@ -10,7 +10,7 @@ ghost use lib.ListN.{length};
 ghost use Rattle.refusal.specs.Lent.{fitting, lengthOf, lentAfter, writtenOutcome};
 ghost use Rattle.batch.specs.Rows.{batchAnswer};
 ghost use Rattle.batch.specs.Layout.{ReadsItsLayout};
-ghost use Rattle.batch.specs.Said.{samplesAnswer};
+ghost use Rattle.batch.specs.Steps.{samplesAnswer};
 
 pub const MOST_SAMPLES: usize = 400;
 
@@ -27,7 +27,7 @@ pub fn judge_batch(words: &[u32], out: &mut [u32]) -> Written
     ensures lent { λ _. ⌜ now (out .exit) ≡ lentAfter (fitting (length (now (out .entry))) (batchAnswer (now (words .entry)))) (now (out .entry)) ⌝ }
     ensures layout { λ _. ⌜ ReadsItsLayout ⌝ }
 {
-    let read = controls::read(words);
+    let read = chart_section::read(words);
     let ended = read.ended;
     match ended {
         Ended::Whole(size) => {

@@ -8,7 +8,7 @@ ghost use lib.ListN.{length};
 ghost use Rattle.record.specs.Record.{recordWords, hasReading};
 ghost use Rattle.judge.specs.Judgements.{numbersOf};
 ghost use Rattle.batch.specs.Rows.{rowWith};
-ghost use Rattle.batch.specs.Said.{flaggedBy};
+ghost use Rattle.batch.specs.Steps.{flaggedBy};
 
 // The row of a judged record.
 pub fn row(words: &[u32], verdicts: Verdicts, elements: &[u32], signals: &[u32]) -> [u32; ROW_WORDS]

@@ -9,7 +9,7 @@ ghost use mathlib.Core.Path.{_≡_};
 ghost use Prim.Native.Nat.{_≤_};
 ghost use lib.ListN.{length, getD};
 ghost use Rattle.batch.specs.Batches.{mostSamples};
-ghost use Rattle.batch.specs.Said.{samplesAnswer, MadeSaid, bufferWords};
+ghost use Rattle.batch.specs.Steps.{samplesAnswer, MadeSaid, bufferWords};
 
 // Makes the answer to the samples' section in a buffer: their count, then a row for each. The words are all that is left of
 // the batch. What a refusal leaves in the buffer is of no use.

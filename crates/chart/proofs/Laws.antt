@@ -7,8 +7,8 @@ use lib.ListN.{length}
 use Rattle.refusal.specs.Outcome.Outcome.{given, refused}
 use Rattle.refusal.specs.Numbers.{numberOf}
 use Rattle.refusal.specs.declared.Refusal.the-variants as refusal
-use Rattle.values.specs.Values.{allValues, countsFit}
-use Rattle.values.proofs.Laws.{values-refused}
+use Rattle.chart.specs.Values.{allValues, countsFit}
+use Rattle.chart.proofs.ValueLaws.{values-refused}
 use Rattle.chart.specs.Charts.{lastWord, lastSignalOf}
 use Rattle.chart.proofs.ValidLaws as valid
 

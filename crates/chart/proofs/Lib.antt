@@ -1,4 +1,6 @@
--- The laws behind this crate's contracts. Other crates cite `Laws`, and nothing else of it.
+-- The laws behind this crate's contracts. Other crates cite `Laws` and `ValueLaws`, and nothing else of it.
+mod EveryLaws
+pub mod ValueLaws
 mod OrderLaws
 mod SpreadLaws
 mod SumLaws

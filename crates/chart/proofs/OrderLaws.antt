@@ -6,7 +6,7 @@ use Prim.Native.Nat.{ℕ, suc, _+_, _-_, _≤_, _<_}
 use native.Mathlib.Omega.{arith}
 use lib.ListN.{length, getD, drop, length-drop}
 use lib.Seq.{drop-cons}
-use Rattle.values.proofs.EveryLaws.{further, at-end}
+use Rattle.chart.proofs.EveryLaws.{further, at-end}
 use Rattle.chart.specs.Rules.{Course, inStep, ordered}
 
 -- a single value is in order

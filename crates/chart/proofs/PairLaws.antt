@@ -7,11 +7,11 @@ use native.Mathlib.Omega.{arith}
 use lib.Dec.{leb}
 use lib.ListN.{getD}
 use borrow.Author.Tests.{ltb-true}
-use Rattle.values.specs.Values.{every}
+use Rattle.chart.specs.Values.{every}
 use Rattle.chart.specs.Setups.{SetupTerms, beyond, onSide}
 use Rattle.chart.specs.Setups.Side.{Above, Below}
 use Rattle.chart.specs.Rules.{beyondTwo, beyondTwoBefore, pairOn, pairBeyondTwo}
-use Rattle.chart.specs.RuleSteps.{hasPartner}
+use Rattle.chart.specs.Steps.{hasPartner}
 
 -- the values one and two places before it, and whether there is such a place
 module _ (f : SetupTerms) (v w : ℕ) (one two : Bool) where

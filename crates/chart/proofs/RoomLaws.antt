@@ -7,8 +7,8 @@ use native.Mathlib.Nat.{mul-le-mul}
 use native.Mathlib.Omega.{arith}
 use lib.ListN.{length, getD, take, drop}
 use Rattle.refusal.specs.Differences.{apart}
-use Rattle.values.specs.Values.{allValues, mostSetup}
-use Rattle.values.proofs.Laws.{values-each}
+use Rattle.chart.specs.Values.{allValues, mostSetup}
+use Rattle.chart.proofs.ValueLaws.{values-each}
 use Rattle.chart.specs.declared.setup.Setup.{Setup}
 use Rattle.chart.specs.Setups.{square, sumOf, squaresOf, setupOf}
 use Rattle.chart.specs.Room.{room, mostLimit, limitOf, InRoom, prepared, HasRoom}

@@ -8,7 +8,7 @@ use lib.ListN.{take, drop}
 use borrow.Author.Tests.{le-leb, lt-leb}
 use Rattle.chart.specs.Setups.{SetupTerms}
 use Rattle.chart.specs.Rules.{earlier, sevenOnOneSide, sevenInOrder}
-use Rattle.chart.specs.RuleSteps.{byMean, onOneSide, inOrder}
+use Rattle.chart.specs.Steps.{byMean, onOneSide, inOrder}
 
 module _ (f : SetupTerms) (l : List ℕ) (i : ℕ) where
   abbrev part : List ℕ

@@ -6,7 +6,7 @@ use native.Mathlib.Numerals.{add-one}
 use native.Mathlib.Omega.{arith}
 use lib.ListN.{length, getD, drop, drop-of-length-le}
 use lib.Seq.{drop-cons}
-use Rattle.values.specs.Values.{mostSetup}
+use Rattle.chart.specs.Values.{mostSetup}
 use Rattle.chart.specs.Setups.{square, sumOf, squaresOf}
 use Rattle.chart.specs.Room.{InRoom}
 

@@ -11,10 +11,10 @@ use Rattle.refusal.specs.declared.Refusal.{Refusal}
 use Rattle.refusal.specs.declared.Refusal.the-variants as refusal
 use Rattle.refusal.proofs.LentLaws as lent
 use Rattle.refusal.proofs.LentLaws.{Answers}
-use Rattle.values.specs.declared.Tested.{Tested}
-use Rattle.values.specs.declared.Tested.the-variants as variant
-use Rattle.values.specs.Values.{mostSetup, testOf, testedOutcome}
-use Rattle.values.proofs.Laws.{Valid, counts-within, valid-passes, refused-for-all}
+use Rattle.chart.specs.declared.values.Tested.{Tested}
+use Rattle.chart.specs.declared.values.Tested.the-variants as variant
+use Rattle.chart.specs.Values.{mostSetup, testOf, testedOutcome}
+use Rattle.chart.proofs.ValueLaws.{Valid, counts-within, valid-passes, refused-for-all}
 use Rattle.chart.specs.Setups.{setupOf}
 use Rattle.chart.specs.Charts.{firstWords, signalWords, signalsOf, lastWord, lastSignalOf}
 use Rattle.chart.specs.Room.{InRoom, prepared, HasRoom}

@@ -5,7 +5,7 @@ use lib.ListN.{length, getD}
 use Rattle.refusal.specs.Outcome.{Outcome}
 use Rattle.refusal.specs.Outcome.Outcome.{given, refused}
 use Rattle.refusal.specs.Numbers.{numberOf}
-use Rattle.values.specs.Values.{tested}
+use Rattle.chart.specs.Values.{tested}
 use Rattle.chart.specs.declared.Last.{Last}
 use Rattle.chart.specs.declared.Last.the-variants as last
 use Rattle.chart.specs.Setups.{SetupTerms, setupOf}

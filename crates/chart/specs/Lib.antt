@@ -1,5 +1,6 @@
+pub mod Values
 pub mod Setups
 pub mod Rules
 pub mod Charts
-pub mod RuleSteps
+pub mod Steps
 pub mod Room

@@ -3,7 +3,7 @@
 use mathlib.Core.List.{List, [], _∷_}
 use mathlib.Core.Path.{_≡_}
 use Prim.Native.Nat.{ℕ, _-_, _*_, _≤_}
-use Rattle.values.specs.Values.{mostSetup}
+use Rattle.chart.specs.Values.{mostSetup}
 use Rattle.chart.specs.declared.setup.Setup.{Setup}
 use Rattle.chart.specs.Setups.{square, SetupTerms}
 

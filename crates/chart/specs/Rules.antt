@@ -5,7 +5,7 @@ use mathlib.Core.List.{List, [], _∷_}
 use Prim.Native.Nat.{ℕ, _+_, _-_}
 use lib.Dec.{leb, ltb}
 use lib.ListN.{getD, take, drop}
-use Rattle.values.specs.Values.{every}
+use Rattle.chart.specs.Values.{every}
 use Rattle.chart.specs.Setups.{SetupTerms, Side, beyond, onSide}
 use Rattle.chart.specs.Setups.Side.{Above, Below}
 

@@ -4,10 +4,11 @@ mod deviations;
 mod rules;
 mod setup;
 mod signal;
+pub mod values;
 
+use crate::values::Tested;
 use refusal::Refusal;
 use refusal::Written;
-use values::Tested;
 ghost use mathlib.Core.Path.{_≡_};
 ghost use lib.ListN.{length};
 ghost use Rattle.refusal.specs.Lent.{fitting, lentAfter, lengthOf, writtenOutcome};

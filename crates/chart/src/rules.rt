@@ -8,8 +8,8 @@ ghost use mathlib.Core.Path.{_≡_};
 ghost use Prim.Native.Nat.{_<_, _≤_};
 ghost use lib.ListN.{length};
 ghost use Rattle.chart.specs.Rules.{pairBeyondTwo};
-ghost use Rattle.values.specs.Values.{mostSetup};
-ghost use Rattle.chart.specs.RuleSteps.{hasPartner, byMean, onOneSide, inOrder};
+ghost use Rattle.chart.specs.Values.{mostSetup};
+ghost use Rattle.chart.specs.Steps.{hasPartner, byMean, onOneSide, inOrder};
 ghost use Rattle.chart.specs.Room.{room, termsOf, InRoom, HasRoom};
 
 // Rule 2. Few values are beyond 2 at all: the others are done before any earlier value is looked at.

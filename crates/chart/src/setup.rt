@@ -3,7 +3,7 @@ ghost use mathlib.Core.Path.{_≡_};
 ghost use Prim.Native.Nat.{_≤_};
 ghost use lib.ListN.{length};
 ghost use Rattle.chart.specs.Setups.{setupOf};
-ghost use Rattle.values.specs.Values.{mostSetup};
+ghost use Rattle.chart.specs.Values.{mostSetup};
 ghost use Rattle.chart.specs.Room.{InRoom, prepared};
 
 // How many values, their sum and the sum of their squares: n, S and Q of document 01; and the limit at one deviation,

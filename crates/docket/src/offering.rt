@@ -57,7 +57,12 @@ pub fn offer_repeat(docket: Docket, words: &[u32]) -> Offered
 
 // A repeat that its own tests accept: it is refused 11 or 12, or taken. No offers produce a docket with a count above 2,
 // or one that holds what is no record.
-fn offer_judged(docket: Docket, words: &[u32], verdicts: Verdicts, comparison: Comparison) -> Offered
+fn offer_judged(
+    docket: Docket,
+    words: &[u32],
+    verdicts: Verdicts,
+    comparison: Comparison,
+) -> Offered
     requires { ⌜ Waiting (docketOf docket) ⌝ }
     requires judged { ⌜ judgementOf (now words) ≡ given (numbersOf verdicts) ⌝ }
     requires compared { ⌜ comparisonOutcome comparison ≡ comparisonOf (docket .held) (now words) ⌝ }

@@ -15,8 +15,7 @@ impl Verdicts {
         let conductivity = self.conductivity;
         let ratio = self.ratio;
         let nitrogen = self.nitrogen;
-        is_passed(balance)
-            & (is_passed(conductivity) & (is_passed(ratio) & is_passed(nitrogen)))
+        is_passed(balance) & (is_passed(conductivity) & (is_passed(ratio) & is_passed(nitrogen)))
     }
 }
 

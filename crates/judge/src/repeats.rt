@@ -10,8 +10,16 @@ pub fn comparison(agreement: Agreement, same: bool) -> Comparison
     ensures { λ r. ⌜ comparisonOutcome r ≡ comparedBy (agreementOutcome agreement) same ⌝ }
 {
     match agreement {
-        Agreement::Agree => if same { Comparison::Agree } else { Comparison::OtherSample },
-        Agreement::Differ => if same { Comparison::Differ } else { Comparison::OtherSample },
+        Agreement::Agree => if same {
+            Comparison::Agree
+        } else {
+            Comparison::OtherSample
+        },
+        Agreement::Differ => if same {
+            Comparison::Differ
+        } else {
+            Comparison::OtherSample
+        },
         Agreement::Refused(why) => Comparison::Refused(why),
     }
 }

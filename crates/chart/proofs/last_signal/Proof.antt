@@ -2,7 +2,7 @@
 use mathlib.Core.Path.{sym, ap, _∙_}
 use native.Mathlib.Omega.{arith}
 use Rattle.refusal.specs.Outcome.Outcome.{given}
-use Rattle.values.proofs.Laws.{accepted-valid}
+use Rattle.chart.proofs.ValueLaws.{accepted-valid}
 use Rattle.chart.proofs.ValidLaws.{last-refused, setup-in-room, later-in-room, setup-has-room, last-given}
 use Rattle.chart.proofs.WordLaws.{no-last, last-is}
 use borrow.Author.Needs.{needs}

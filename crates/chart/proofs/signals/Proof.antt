@@ -7,7 +7,7 @@ use lib.ListN.{length, drop, length-set}
 use Rattle.chart.specs.Charts.{firstWords}
 use Rattle.chart.specs.Room.{termsOf}
 use Rattle.refusal.proofs.LentLaws.{refused-before}
-use Rattle.values.proofs.Laws.{accepted-valid}
+use Rattle.chart.proofs.ValueLaws.{accepted-valid}
 use Rattle.chart.proofs.SpreadLaws.{never-negative}
 use Rattle.chart.proofs.ValidLaws.{signals-refused, setup-in-room, later-in-room, setup-has-room, too-short, written}
 use Rattle.chart.proofs.WordLaws.{none-written, one-more}

@@ -3,7 +3,7 @@ use mathlib.Core.Path.{_≡_, refl, sym, _∙_}
 use Prim.Native.Nat.{_-_, _≤_}
 use lib.ListN.{length, drop}
 use borrow.Author.Needs.{needs}
-use Rattle.batch.specs.Said.{flaggedBy}
+use Rattle.batch.specs.Steps.{flaggedBy}
 use Rattle.batch.proofs.FlagLaws.{flag-found, flag-next, flag-end}
 use Rattle.batch.proofs.rows.flagged.Statement.{statement}
 use Rattle.batch.proofs.rows.flagged.Tie as tie

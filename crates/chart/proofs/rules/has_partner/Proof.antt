@@ -1,7 +1,7 @@
 -- Each return is what the definition gives by the tests on the way; the earlier value has room.
 use native.Mathlib.Omega.{arith}
 use borrow.Author.Tests.{le-leb, lt-leb}
-use Rattle.chart.specs.RuleSteps.{hasPartner}
+use Rattle.chart.specs.Steps.{hasPartner}
 use Rattle.chart.proofs.RoomLaws.{room-at}
 use borrow.Author.Needs.{needs}
 use Rattle.chart.proofs.rules.has_partner.Statement.{statement}

@@ -4,8 +4,8 @@ use native.Mathlib.Omega.{arith}
 use lib.ListN.{length}
 use Rattle.chart.specs.Setups.{onSide}
 use Rattle.chart.specs.Setups.Side.{Above, Below}
-use Rattle.chart.specs.RuleSteps.{byMean}
-use Rattle.values.proofs.EveryLaws.{Seen, none-seen, one-more, all-seen}
+use Rattle.chart.specs.Steps.{byMean}
+use Rattle.chart.proofs.EveryLaws.{Seen, none-seen, one-more, all-seen}
 use Rattle.chart.proofs.RoomLaws.{room-at, times-most}
 use borrow.Author.Needs.{needs}
 use Rattle.chart.proofs.rules.on_one_side.Statement.{statement}

@@ -1,0 +1,3 @@
+pub mod ChartSection
+pub mod Columns
+pub mod Steps
