@@ -87,4 +87,4 @@ module _ (k : Check) (sound : Sound k) (a : ℕ → ℕ) (p h : ℕ) (o : Ordere
       }
 
   pub passes-tells : Tells (AtH p (boundsOf k a)) (passesOf k (points a h b))
-  passes-tells = tells (deciding (k .window) (gap b) (k .hydrogen * h + X) (k .hydrogen * (h + gap b) + X) Y Y)
+  passes-tells = tells (deciding (k .window) b (k .hydrogen * h + X) (k .hydrogen * (h + gap b) + X) Y Y)

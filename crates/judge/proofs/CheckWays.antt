@@ -4,6 +4,7 @@ use mathlib.Core.Bool.{true, false}
 use Prim.Native.Nat.{ℕ, _+_}
 use lib.Dec.{leb, eqb}
 use Rattle.reading.specs.declared.Analyte.{Analyte}
+use Rattle.reading.specs.declared.Reading.the-variants.{Missing}
 use Rattle.reading.specs.Analytes.{present}
 use Rattle.solution.specs.Solutions.{Sums}
 use Rattle.judge.specs.Corners.{decided}
@@ -11,6 +12,7 @@ use Rattle.judge.specs.IonBalance.{balanceApplies, balanceLimit, balance
 use Rattle.judge.specs.Conductivity.{conductivityLimit, conductivityWindow}
 use Rattle.judge.specs.Ratios.{sodiumChlorideWindow, nitrogenWindow}
 use Rattle.judge.specs.Prepared.{balanceIn, conductivityIn, ratioIn, nitrogenIn}
+use Rattle.judge.proofs.MatchLaws.{There, is-missing, is-there}
 
 module _ (kind : ℕ) (carbon : Analyte) (measured : ℕ) (x : Sums) where
   pub balance-not : balanceApplies kind (present (carbon .reading)) (carbon .mass .0) ≡ false → 0 ≡ balanceIn kind carbon measured x
@@ -22,7 +24,7 @@ module _ (kind : ℕ) (carbon : Analyte) (measured : ℕ) (x : Sums) where
     unfolding balanceIn
     balance-missing k = rw (a, k)
 
-    pub balance-decided : {v : ℕ} → x .known ≡ true → v ≡ decided (balanceWindow (balanceLimit measured)) (x .gap) (x .leastCations) (x .mostCations) (x .anions) (x .anions)
+    pub balance-decided : {v : ℕ} → x .known ≡ true → v ≡ decided (balanceWindow (balanceLimit measured)) (x .whole) (x .leastCations) (x .mostCations) (x .anions) (x .anions)
         → v ≡ balanceIn kind carbon measured x
     unfolding balanceIn
     balance-decided k e = rw (a, k) e
@@ -33,7 +35,7 @@ module _ (measured : ℕ) (x : Sums) where
   conductivity-missing k = rw k
 
   pub conductivity-decided : {v : ℕ} → x .known ≡ true
-      → v ≡ decided (conductivityWindow (conductivityLimit measured)) (x .gap) (x .leastCalculated) (x .mostCalculated) (x .measured) (x .measured)
+      → v ≡ decided (conductivityWindow (conductivityLimit measured)) (x .whole) (x .leastCalculated) (x .mostCalculated) (x .measured) (x .measured)
       → v ≡ conductivityIn measured x
   unfolding conductivityIn
   conductivity-decided k e = rw k e
@@ -44,41 +46,41 @@ module _ (kind : ℕ) (na cl : Analyte) (x : Sums) where
   other-kind k = rw k
 
   module _ (k : leb kind 4 ≡ true) where
-    pub no-chloride : present (cl .reading) ≡ false → 4 ≡ ratioIn kind na cl x
+    pub no-chloride : cl .reading ≡ Missing → 4 ≡ ratioIn kind na cl x
     unfolding ratioIn
-    no-chloride c = rw (k, c)
+    no-chloride c = rw (k, is-missing c)
 
-    module _ (c : present (cl .reading) ≡ true) where
+    module _ (c : There (cl .reading)) where
       pub chloride-zero : eqb (cl .mass .0) 0 ≡ true → 0 ≡ ratioIn kind na cl x
       unfolding ratioIn
-      chloride-zero z = rw (k, c, z)
+      chloride-zero z = rw (k, is-there (cl .reading) c, z)
 
       module _ (z : eqb (cl .mass .0) 0 ≡ false) where
-        pub no-sodium : present (na .reading) ≡ false → 4 ≡ ratioIn kind na cl x
+        pub no-sodium : na .reading ≡ Missing → 4 ≡ ratioIn kind na cl x
         unfolding ratioIn
-        no-sodium n = rw (k, c, z, n)
+        no-sodium n = rw (k, is-there (cl .reading) c, z, is-missing n)
 
-        pub ratio-decided : {v : ℕ} → present (na .reading) ≡ true → v ≡ decided sodiumChlorideWindow 0 (x .sodium) (x .sodium) (x .chloride) (x .chloride) → v ≡ ratioIn kind na cl x
+        pub ratio-decided : {v : ℕ} → There (na .reading) → v ≡ decided sodiumChlorideWindow true (x .sodium) (x .sodium) (x .chloride) (x .chloride) → v ≡ ratioIn kind na cl x
         unfolding ratioIn
-        ratio-decided n e = rw (k, c, z, n) e
+        ratio-decided n e = rw (k, is-there (cl .reading) c, z, is-there (na .reading) n) e
 
 module _ (total nitrate ammonium : Analyte) where
-  pub no-total : present (total .reading) ≡ false → 0 ≡ nitrogenIn total nitrate ammonium
+  pub no-total : total .reading ≡ Missing → 0 ≡ nitrogenIn total nitrate ammonium
   unfolding nitrogenIn
-  no-total t = rw t
+  no-total t = rw (is-missing t)
 
-  module _ (t : present (total .reading) ≡ true) where
-    pub no-nitrate : present (nitrate .reading) ≡ false → 4 ≡ nitrogenIn total nitrate ammonium
+  module _ (t : There (total .reading)) where
+    pub no-nitrate : nitrate .reading ≡ Missing → 4 ≡ nitrogenIn total nitrate ammonium
     unfolding nitrogenIn
-    no-nitrate n = rw (t, n)
+    no-nitrate n = rw (is-there (total .reading) t, is-missing n)
 
-    module _ (n : present (nitrate .reading) ≡ true) where
-      pub no-ammonium : present (ammonium .reading) ≡ false → 4 ≡ nitrogenIn total nitrate ammonium
+    module _ (n : There (nitrate .reading)) where
+      pub no-ammonium : ammonium .reading ≡ Missing → 4 ≡ nitrogenIn total nitrate ammonium
       unfolding nitrogenIn
-      no-ammonium a = rw (t, n, a)
+      no-ammonium a = rw (is-there (total .reading) t, is-there (nitrate .reading) n, is-missing a)
 
-      pub nitrogen-decided : {v : ℕ} → present (ammonium .reading) ≡ true
-          → v ≡ decided nitrogenWindow 0 (nitrate .mass .0 + ammonium .mass .0) (nitrate .mass .0 + ammonium .mass .0) (total .mass .0) (total .mass .0)
+      pub nitrogen-decided : {v : ℕ} → There (ammonium .reading)
+          → v ≡ decided nitrogenWindow true (nitrate .mass .0 + ammonium .mass .0) (nitrate .mass .0 + ammonium .mass .0) (total .mass .0) (total .mass .0)
           → v ≡ nitrogenIn total nitrate ammonium
       unfolding nitrogenIn
-      nitrogen-decided a e = rw (t, n, a) e
+      nitrogen-decided a e = rw (is-there (total .reading) t, is-there (nitrate .reading) n, is-there (ammonium .reading) a) e

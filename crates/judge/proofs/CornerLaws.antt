@@ -144,7 +144,7 @@ module _ (k : Check) (o : Sound k) (r : Ranges) (ordered : (i : ℕ) → r .leas
   judged (Decided.within h h′) = every (λ c a. record { high = all-high s l (sums c a) h; low = all-low s′ l′ (sums c a) h′ })
 
   pub passes-judged : Judged Choice (Among r) (Passes k) (passesOf k r)
-  passes-judged = judged (deciding (k .window) e x₀ x₁ y₀ y₁)
+  passes-judged = judged (deciding (k .window) (r .whole) x₀ x₁ y₀ y₁)
 
   -- there is a choice, so no other verdict is true of every choice
   pub a-choice : (c : Choice) × Among r c

@@ -14,6 +14,7 @@ mod BalanceLaws
 mod ConductivityLaws
 mod PointLaws
 mod Applying
+mod MatchLaws
 mod CheckWays
 mod RatioProofs
 mod TruthProofs

@@ -25,7 +25,10 @@ decided-most (Decided.parted′ a b c) = lit≤ tt
 decided-most (Decided.within a b) = lit≤ tt
 
 applied-most : (applies known : Bool) {n : ℕ} → n ≤ 4 → applied applies known n ≤ 4
-applied-most applies known h = most-of applies (most-of known h (lit≤ tt)) (lit≤ tt)
+applied-most true true h = h
+applied-most true false h = lit≤ tt
+applied-most false true h = lit≤ tt
+applied-most false false h = lit≤ tt
 
 module _ (s : List ℕ) where
   abbrev has : ℕ → Bool

@@ -45,8 +45,8 @@ module _ (w : Window) (x y : ℕ) where
   settle (Decided.parted′ a b l) = absurd (omega arith)
   settle (Decided.within l l′) = Settled.holds (l, l′)
 
-  pub settled : Settled (Within w x y) (decided w 0 x x y y)
-  settled = settle (deciding w 0 x x y y)
+  pub settled : Settled (Within w x y) (decided w true x x y y)
+  settled = settle (deciding w true x x y y)
 
 -- so at a pH that is a multiple of 100, the amounts being points
 pub whole-settled : (k : Check) (a : ℕ → ℕ) (h : ℕ)

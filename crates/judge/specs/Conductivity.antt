@@ -12,7 +12,7 @@ use Rattle.judge.specs.declared.window.Window.{Window}
 use Rattle.judge.specs.Choices.{Choice}
 use Rattle.judge.specs.Verdicts.{applied}
 use Rattle.judge.specs.AtHydrogen.{Bounds}
-use Rattle.judge.specs.Corners.{Check, passesOf}
+use Rattle.judge.specs.Corners.{fraction, Check, passesOf}
 use Rattle.judge.specs.Ranges.{rangesOf}
 
 -- 'M is 30 up to 10.0, 20 up to 20.0, 10 above', by tenths of µS/cm
@@ -29,7 +29,7 @@ pub record Conducting (M t CM : ℕ) (c : Choice) : Type 0 where
 
 -- the same as a window of the ratio CE / CM
 abbrev pub conductivityWindow : ℕ → Window
-conductivityWindow M = record { low = record { numerator = 100 - M; denominator = 100 }; high = record { numerator = 100 + M; denominator = 100 } }
+conductivityWindow M = record { low = fraction (100 - M) 100; high = fraction (100 + M) 100 }
 
 abbrev pub conductivityCheck : ℕ → ℕ → ℕ → Check
 conductivityCheck M t CM =

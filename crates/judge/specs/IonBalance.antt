@@ -13,7 +13,7 @@ use Rattle.judge.specs.declared.window.Window.{Window}
 use Rattle.judge.specs.Choices.{Choice}
 use Rattle.judge.specs.Verdicts.{applied}
 use Rattle.judge.specs.AtHydrogen.{Bounds}
-use Rattle.judge.specs.Corners.{Check, passesOf}
+use Rattle.judge.specs.Corners.{fraction, Check, passesOf}
 use Rattle.judge.specs.Ranges.{rangesOf}
 
 -- 'kinds 1 and 2, and kind 5 with DOC present and below 5,000 µg/L'
@@ -40,7 +40,7 @@ pub record Balanced (L t : ℕ) (c : Choice) : Type 0 where
 
 -- the same as a window of the ratio Cat / An
 abbrev pub balanceWindow : ℕ → Window
-balanceWindow L = record { low = record { numerator = 200 - L; denominator = 200 + L }; high = record { numerator = 200 + L; denominator = 200 - L } }
+balanceWindow L = record { low = fraction (200 - L) (200 + L); high = fraction (200 + L) (200 - L) }
 
 abbrev pub balanceCheck : ℕ → ℕ → Check
 balanceCheck L t =

@@ -25,12 +25,12 @@ pub record Accepted (s : List ℕ) (own : TestedRecord) (floor : ℕ) : Type 0 w
 unfoldable pub balanceIn : ℕ → Analyte → ℕ → Sums → ℕ
 balanceIn kind carbon measured x =
     applied (balanceApplies kind (present (carbon .reading)) (carbon .mass .0)) (x .known)
-    (decided (balanceWindow (balanceLimit measured)) (x .gap) (x .leastCations) (x .mostCations) (x .anions) (x .anions))
+    (decided (balanceWindow (balanceLimit measured)) (x .whole) (x .leastCations) (x .mostCations) (x .anions) (x .anions))
 
 unfoldable pub conductivityIn : ℕ → Sums → ℕ
 conductivityIn measured x =
     applied true (x .known)
-    (decided (conductivityWindow (conductivityLimit measured)) (x .gap) (x .leastCalculated) (x .mostCalculated) (x .measured) (x .measured))
+    (decided (conductivityWindow (conductivityLimit measured)) (x .whole) (x .leastCalculated) (x .mostCalculated) (x .measured) (x .measured))
 
 unfoldable pub ratioIn : ℕ → Analyte → Analyte → Sums → ℕ
 ratioIn kind na cl x = sodiumChlorideBy kind (present (cl .reading)) (cl .mass .0) (present (na .reading)) (x .sodium) (x .chloride)

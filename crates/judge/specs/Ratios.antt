@@ -1,5 +1,5 @@
 -- Document 01, 'Na/Cl' and 'Nitrogen': two checks in which hydrogen plays no part.
-use mathlib.Core.Bool.{Bool, cond}
+use mathlib.Core.Bool.{Bool, true, cond}
 use mathlib.Core.List.{List}
 use Prim.Native.Nat.{ℕ, _+_}
 use lib.Dec.{leb, eqb}
@@ -7,11 +7,11 @@ use Rattle.reading.specs.Analytes.{present}
 use Rattle.record.specs.Record.{kindOf, readingAt, massAt, ammonium, sodium, nitrate, chloride, totalNitrogen}
 use Rattle.solution.specs.Solutions.{sodiumCharge, chlorideCharge}
 use Rattle.judge.specs.declared.window.Window.{Window}
-use Rattle.judge.specs.Corners.{decided}
+use Rattle.judge.specs.Corners.{fraction, decided}
 
 -- 'the ratio of charges is from 0.5 to 1.5, ends included'
 abbrev pub sodiumChlorideWindow : Window
-sodiumChlorideWindow = record { low = record { numerator = 1; denominator = 2 }; high = record { numerator = 3; denominator = 2 } }
+sodiumChlorideWindow = record { low = fraction 1 2; high = fraction 3 2 }
 
 -- 'kinds 1 to 4, unless Cl is present with amount 0; Cl missing gives 4'; 'needs both'. By the charges of sodium and chloride
 abbrev pub sodiumChlorideBy : ℕ → Bool → ℕ → Bool → ℕ → ℕ → ℕ
@@ -19,7 +19,7 @@ sodiumChlorideBy kind hasChloride chlorideMass hasSodium na cl =
     cond (leb kind 4)
     (cond hasChloride
     (cond (eqb chlorideMass 0) 0
-    (cond hasSodium (decided sodiumChlorideWindow 0 na na cl cl) 4))
+    (cond hasSodium (decided sodiumChlorideWindow true na na cl cl) 4))
     4)
     0
 
@@ -29,14 +29,14 @@ sodiumChlorideOf s =
 
 -- 'TN is at least NO3-N plus NH4-N, in amounts': their ratio to TN is at most 1
 abbrev pub nitrogenWindow : Window
-nitrogenWindow = record { low = record { numerator = 0; denominator = 1 }; high = record { numerator = 1; denominator = 1 } }
+nitrogenWindow = record { low = fraction 0 1; high = fraction 1 1 }
 
 -- 'all kinds with TN present'; 'needs both'
 abbrev pub nitrogenBy : Bool → Bool → Bool → ℕ → ℕ → ℕ
 nitrogenBy hasTotal hasNitrate hasAmmonium mineral total =
     cond hasTotal
     (cond hasNitrate
-    (cond hasAmmonium (decided nitrogenWindow 0 mineral mineral total total) 4)
+    (cond hasAmmonium (decided nitrogenWindow true mineral mineral total total) 4)
     4)
     0
 

@@ -1,8 +1,10 @@
 // The ion balance.
+use crate::ratio;
+use crate::ratio::Fraction;
 use crate::window;
-use crate::window::Fraction;
 use crate::window::Window;
 use reading::Analyte;
+use reading::Reading;
 use solution::Solution;
 use verdict::Verdict;
 ghost use mathlib.Core.Path.{_≡_};
@@ -34,15 +36,9 @@ pub fn of_record(
     if !solution.known {
         return Verdict::Missing;
     }
-    let least = Fraction {
-        numerator: solution.cations.least.0,
-        denominator: solution.anions.0,
-    };
-    let most = Fraction {
-        numerator: solution.cations.most.0,
-        denominator: solution.anions.0,
-    };
-    window::decide(window_at(measured), solution.gap.0, least, most)
+    let least = ratio::of_charges(solution.cations.least, solution.anions);
+    let most = ratio::of_charges(solution.cations.most, solution.anions);
+    window::decide(window_at(measured), solution.whole, least, most)
 }
 
 // Open field samples, and runoff with little dissolved organic carbon, whose charge is not known.
@@ -58,7 +54,8 @@ fn applies(kind: u32, carbon: Analyte) -> bool
     if kind != 5 {
         return false;
     }
-    if !carbon.is_present() {
+    let reading = carbon.reading;
+    if let Reading::Missing = reading {
         return false;
     }
     carbon.mass.0 < 5000

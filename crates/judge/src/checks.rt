@@ -1,4 +1,5 @@
-// The four checks of a record.
+// The four checks of a record. A check that asks whether a reading is there matches on the reading's enum itself: the form that
+// document 01 names, 'conversion and verdicts match on it'.
 use crate::Judgement;
 use crate::Verdicts;
 use crate::balance_check;

@@ -1,6 +1,7 @@
 // The conductivity that the ions account for, against the measured one.
+use crate::ratio;
+use crate::ratio::Fraction;
 use crate::window;
-use crate::window::Fraction;
 use crate::window::Window;
 use solution::Solution;
 use verdict::Verdict;
@@ -20,15 +21,9 @@ pub fn of_record(measured: u32, solution: Solution) -> Verdict
     if !solution.known {
         return Verdict::Missing;
     }
-    let least = Fraction {
-        numerator: solution.calculated.least.0,
-        denominator: solution.measured.0,
-    };
-    let most = Fraction {
-        numerator: solution.calculated.most.0,
-        denominator: solution.measured.0,
-    };
-    window::decide(window_at(measured), solution.gap.0, least, most)
+    let least = ratio::of_conductivities(solution.calculated.least, solution.measured);
+    let most = ratio::of_conductivities(solution.calculated.most, solution.measured);
+    window::decide(window_at(measured), solution.whole, least, most)
 }
 
 // The window of calculated to measured conductivity: within 30 percent up to 10.0 µS/cm, 20 up to 20.0, 10 above.

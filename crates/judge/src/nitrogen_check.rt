@@ -1,11 +1,14 @@
 // Total nitrogen against the nitrogen of nitrate and ammonium.
+use crate::ratio;
+use crate::ratio::Fraction;
 use crate::window;
-use crate::window::Fraction;
 use crate::window::Window;
 use reading::Analyte;
 use reading::Mass;
+use reading::Reading;
 use verdict::Verdict;
 ghost use mathlib.Core.Path.{_≡_};
+ghost use mathlib.Core.Bool.{true};
 ghost use Prim.Native.Nat.{_+_, _≤_};
 ghost use Rattle.record.specs.Record.{readings, mostMass, ammonium, nitrate, totalNitrogen};
 ghost use Rattle.record.specs.Tested.{analyteAt};
@@ -21,15 +24,18 @@ pub fn of_record(analytes: [Analyte; record::READINGS]) -> Verdict
     ensures { λ r. ⌜ verdictNumber r ≡ nitrogenIn (analyteAt analytes totalNitrogen) (analyteAt analytes nitrate) (analyteAt analytes ammonium) ⌝ }
 {
     let total = analytes[record::TOTAL_NITROGEN];
-    if !total.is_present() {
+    let reading = total.reading;
+    if let Reading::Missing = reading {
         return Verdict::NotApplicable;
     }
     let nitrate = analytes[record::NITRATE];
-    if !nitrate.is_present() {
+    let reading = nitrate.reading;
+    if let Reading::Missing = reading {
         return Verdict::Missing;
     }
     let ammonium = analytes[record::AMMONIUM];
-    if !ammonium.is_present() {
+    let reading = ammonium.reading;
+    if let Reading::Missing = reading {
         return Verdict::Missing;
     }
     verdict(plus(nitrate.mass, ammonium.mass), total.mass)
@@ -46,7 +52,7 @@ fn plus(a: Mass, b: Mass) -> Mass
 // At most all of it.
 fn verdict(mineral: Mass, total: Mass) -> Verdict
     requires { ⌜ (mineral .0 ≤ mostMass + mostMass) × (total .0 ≤ mostMass) ⌝ }
-    ensures { λ r. ⌜ verdictNumber r ≡ decided nitrogenWindow 0 (mineral .0) (mineral .0) (total .0) (total .0) ⌝ }
+    ensures { λ r. ⌜ verdictNumber r ≡ decided nitrogenWindow true (mineral .0) (mineral .0) (total .0) (total .0) ⌝ }
 {
     let window = Window {
         low: Fraction {
@@ -58,9 +64,6 @@ fn verdict(mineral: Mass, total: Mass) -> Verdict
             denominator: 1,
         },
     };
-    let share = Fraction {
-        numerator: mineral.0,
-        denominator: total.0,
-    };
-    window::decide(window, 0, share, share)
+    let share = ratio::of_masses(mineral, total);
+    window::decide(window, true, share, share)
 }

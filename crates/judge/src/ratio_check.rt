@@ -1,12 +1,15 @@
 // The sodium/chloride ratio.
+use crate::ratio;
+use crate::ratio::Fraction;
 use crate::window;
-use crate::window::Fraction;
 use crate::window::Window;
 use reading::Analyte;
+use reading::Reading;
 use solution::Charge;
 use solution::Solution;
 use verdict::Verdict;
 ghost use mathlib.Core.Path.{_≡_};
+ghost use mathlib.Core.Bool.{true};
 ghost use Prim.Native.Nat.{_≤_};
 ghost use Rattle.record.specs.Record.{sodium, chloride};
 ghost use Rattle.record.specs.Tested.{analyteAt};
@@ -26,14 +29,16 @@ pub fn of_record(kind: u32, analytes: [Analyte; record::READINGS], solution: Sol
         return Verdict::NotApplicable;
     }
     let chloride = analytes[record::CHLORIDE];
-    if !chloride.is_present() {
+    let reading = chloride.reading;
+    if let Reading::Missing = reading {
         return Verdict::Missing;
     }
     if chloride.mass.0 == 0 {
         return Verdict::NotApplicable;
     }
     let sodium = analytes[record::SODIUM];
-    if !sodium.is_present() {
+    let reading = sodium.reading;
+    if let Reading::Missing = reading {
         return Verdict::Missing;
     }
     verdict(solution.ratio.sodium, solution.ratio.chloride)
@@ -42,7 +47,7 @@ pub fn of_record(kind: u32, analytes: [Analyte; record::READINGS], solution: Sol
 // From a half to one and a half.
 fn verdict(sodium: Charge, chloride: Charge) -> Verdict
     requires { ⌜ (sodium .0 ≤ 20_000_000_000_000) × (chloride .0 ≤ 20_000_000_000_000) ⌝ }
-    ensures { λ r. ⌜ verdictNumber r ≡ decided sodiumChlorideWindow 0 (sodium .0) (sodium .0) (chloride .0) (chloride .0) ⌝ }
+    ensures { λ r. ⌜ verdictNumber r ≡ decided sodiumChlorideWindow true (sodium .0) (sodium .0) (chloride .0) (chloride .0) ⌝ }
 {
     let window = Window {
         low: Fraction {
@@ -54,9 +59,6 @@ fn verdict(sodium: Charge, chloride: Charge) -> Verdict
             denominator: 2,
         },
     };
-    let ratio = Fraction {
-        numerator: sodium.0,
-        denominator: chloride.0,
-    };
-    window::decide(window, 0, ratio, ratio)
+    let charges = ratio::of_charges(sodium, chloride);
+    window::decide(window, true, charges, charges)
 }

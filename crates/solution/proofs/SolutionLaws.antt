@@ -36,7 +36,7 @@ module _ (s : List ℕ) (own : TestedRecord) (floor : ℕ) (v : Valid s) (h : Ho
       let e = ap (λ (p : ℕ). gap (isWhole p)) (h .ph) in
       let C = held-sum s own h cationCharge in
       let E = ap₂ (λ (x y : ℕ). x + y) (ap alkalinityConducts (h .alkalinity)) (held-sum s own h conducted) in
-      same-sums (held-known s own h) e
+      same-sums (held-known s own h) (ap isWhole (h .ph))
       (ap₂ (λ (x y : ℕ). x + y) f C) (ap₂ (λ (x y : ℕ). x + y) (ap₂ (λ (x y : ℕ). x + y) f e) C)
       (ap₂ (λ (x y : ℕ). x + y) (ap alkalinityCharge (h .alkalinity)) (held-sum s own h anionCharge))
       (ap₂ (λ (x y : ℕ). hydrogenConductance * x + y) f E) (ap₂ (λ (x y : ℕ). hydrogenConductance * x + y) (ap₂ (λ (x y : ℕ). x + y) f e) E)
@@ -67,7 +67,6 @@ module _ (s : List ℕ) (v : Valid s) where
       let E = conducted-most s in
       let t = v .alkalinity in
       record {
-        gap = g;
         cations = omega arith;
         mostCations = omega arith;
         anions = omega arith;

@@ -1,5 +1,5 @@
 -- A record's fields as they are held by value, and what their sums are.
-use mathlib.Core.Bool.{Bool, false, _&&_, cond}
+use mathlib.Core.Bool.{Bool, true, false, _&&_, cond}
 use mathlib.Core.List.{List}
 use Prim.Native.Nat.{ℕ, _≤_, _<_}
 use lib.Dec.{leb}
@@ -25,7 +25,7 @@ abbrev pub noSums : Sums
 noSums =
     record {
       known = false;
-      gap = 0;
+      whole = true;
       leastCations = 0;
       mostCations = 0;
       anions = 0;

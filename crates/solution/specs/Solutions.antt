@@ -13,7 +13,7 @@ use Rattle.solution.specs.Ions.{cationCharge, anionCharge, conducted, hy
 abbrev pub isWhole : ℕ → Bool
 isWhole p = eqb (p % 100) 0
 
--- how far hydrogen may be above its floor: 0 where it is its floor, else up to 1
+-- how far hydrogen may be above its floor, in u: 0 where it is its floor, else up to 1
 abbrev pub gap : Bool → ℕ
 gap whole = cond whole 0 1
 
@@ -25,10 +25,10 @@ alkalinityConducts t = alkalinityConductance * alkalinityCharge t
 abbrev pub measuredOf : ℕ → ℕ
 measuredOf measured = measured * 10 ^ 12
 
--- the sums with hydrogen at its floor, and with the gap above it
+-- whether no ion is missing and whether hydrogen is its floor; and the sums with hydrogen at its floor, and with the gap above it
 pub record Sums : Type 0 where
   pub known : Bool
-  pub gap : ℕ
+  pub whole : Bool
   pub leastCations : ℕ
   pub mostCations : ℕ
   pub anions : ℕ
@@ -44,7 +44,7 @@ abbrev pub sumsWith : (ℕ → Bool) → (ℕ → ℕ) → ℕ → ℕ → ℕ �
 sumsWith there amount floor p t m =
     record {
       known = allBelow there ions;
-      gap = gap (isWhole p);
+      whole = isWhole p;
       leastCations = floor + sum (λ i. cationCharge i * amount i) readings;
       mostCations = floor + gap (isWhole p) + sum (λ i. cationCharge i * amount i) readings;
       anions = alkalinityCharge t + sum (λ i. anionCharge i * amount i) readings;
@@ -84,7 +84,7 @@ abbrev pub sumsIn : Solution → Sums
 sumsIn x =
     record {
       known = x .known;
-      gap = x .gap .0;
+      whole = x .whole;
       leastCations = x .cations .least .0;
       mostCations = x .cations .most .0;
       anions = x .anions .0;

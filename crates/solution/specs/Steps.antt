@@ -21,7 +21,6 @@ pub record IonSums (analytes : List Analyte) (x : ions.Sums) : Type 0 where
 
 -- the sums of a record are far below 64 bits
 pub record Bounded (x : Sums) : Type 0 where
-  pub gap : x .gap ≤ 1
   pub cations : x .leastCations ≤ x .mostCations
   pub mostCations : x .mostCations ≤ 200_000_000_000_000
   pub anions : x .anions ≤ 200_000_000_000_000

@@ -36,8 +36,8 @@ pub struct SodiumChloride {
 pub struct Solution {
     // Whether none of the eight ions is missing.
     pub known: bool,
-    // How far hydrogen may be above its floor: not at all at a whole pH, else less than 1 u.
-    pub gap: Charge,
+    // Whether hydrogen is its floor: at a whole pH. Else it is strictly between its floor and the next whole number of u.
+    pub whole: bool,
     // Cat, An, CE and CM of document 01.
     pub cations: Charges,
     pub anions: Charge,

@@ -26,14 +26,15 @@ pub fn of_ranged(own: TestedRecord, floor: u64) -> Solution
 {
     let analytes = own.analytes;
     let sums = ions::sums_of(analytes);
-    let gap = gap_at(own.ph);
+    let whole = is_whole(own.ph);
+    let gap = gap_of(whole);
     let alkalinity = alkalinity_charge(own.alkalinity);
     let others = alkalinity
         .conducting(ions::ALKALINITY_CONDUCTANCE)
         .plus(sums.conductivity);
     Solution {
         known: sums.known,
-        gap,
+        whole,
         cations: cations(Charge(floor), gap, sums.cations),
         anions: alkalinity.plus(sums.anions),
         calculated: calculated(Charge(floor), gap, others),
@@ -48,7 +49,7 @@ pub fn none() -> Solution
 {
     Solution {
         known: false,
-        gap: Charge(0),
+        whole: true,
         cations: Charges {
             least: Charge(0),
             most: Charge(0),
@@ -66,10 +67,18 @@ pub fn none() -> Solution
     }
 }
 
-fn gap_at(p: u32) -> Charge
-    ensures { λ r. ⌜ (r .0 ≡ gap (isWhole p)) × (r .0 ≤ 1) ⌝ }
+// Hydrogen is its floor where p is a multiple of 100.
+fn is_whole(p: u32) -> bool
+    ensures { λ r. ⌜ r ≡ isWhole p ⌝ }
 {
-    if p % 100 == 0 {
+    p % 100 == 0
+}
+
+// How far hydrogen may be above its floor: not at all where it is its floor, else up to 1 u.
+fn gap_of(whole: bool) -> Charge
+    ensures { λ r. ⌜ (r .0 ≡ gap whole) × (r .0 ≤ 1) ⌝ }
+{
+    if whole {
         return Charge(0);
     }
     Charge(1)

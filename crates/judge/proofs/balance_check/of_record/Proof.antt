@@ -21,17 +21,25 @@ returns-2 : tie.Need-returns-2
 returns-2 c = let kind = c .before .before in
     balance-missing _ _ _ _ (passed (kind .before .applies .ensures) (kind .if1 .left)) (not-true (kind .before .before .before .args .solution .known) (c .if2 .taken))
 
+of-charges-requires : tie.Need-of-charges-requires
+of-charges-requires c κs = search needs
+
+of-charges-requires-2 : tie.Need-of-charges-requires-2
+of-charges-requires-2 c κs = search needs
+
 window-at-requires : tie.Need-window-at-requires
 window-at-requires c κs = search needs
 
 decide-requires : tie.Need-decide-requires
-decide-requires c κs = let start = c .before .before .before .before .before .before in
-    rw (c .window-at .ensures) (balance-room (start .args .measured) (sumsIn (start .args .solution)) (start .pre))
+decide-requires c κs = let start = c .before .before .before .before .before .before .before .before in
+    rw (c .window-at .ensures, c .before .of-charges2 .ensures, c .before .before .of-charges .ensures) (balance-room (start .args .measured) (sumsIn (start .args .solution)) (start .pre))
 
 returns-3 : tie.Need-returns-3
-returns-3 c = let known = c .before .before in
+returns-3 c = let made = c .before .before in
+    let known = made .before .before in
     let kind = known .before .before in
-    balance-decided _ _ _ _ (passed (kind .before .applies .ensures) (kind .if1 .left)) (not-false (kind .before .before .before .args .solution .known) (known .if2 .left)) (rw (c .before .window-at .ensures) at (c .decide .ensures))
+    balance-decided _ _ _ _ (passed (kind .before .applies .ensures) (kind .if1 .left)) (not-false (kind .before .before .before .args .solution .known) (known .if2 .left))
+    (rw (c .before .window-at .ensures, made .of-charges2 .ensures, made .before .of-charges .ensures) at (c .decide .ensures))
 
 pub of-record-spec : {M : Type 1} → statement M
 of-record-spec =
@@ -41,6 +49,8 @@ of-record-spec =
     applies-requires
     returns
     returns-2
+    of-charges-requires
+    of-charges-requires-2
     window-at-requires
     decide-requires
     returns-3)

@@ -1,0 +1,16 @@
+-- The share is that of the two masses, and its products fit.
+use borrow.Author.Needs.{needs}
+use Rattle.judge.proofs.nitrogen_check.verdict.Statement.{statement}
+use Rattle.judge.proofs.nitrogen_check.verdict.Tie as tie
+
+of-masses-requires : tie.Need-of-masses-requires
+of-masses-requires c κs = search needs
+
+decide-requires : tie.Need-decide-requires
+decide-requires c κs = rw (c .of-masses .ensures) (search needs)
+
+returns : tie.Need-returns
+returns c = rw (c .before .of-masses .ensures) at (c .decide .ensures)
+
+pub verdict-spec : {M : Type 1} → statement M
+verdict-spec = tie.close (tie.spec of-masses-requires decide-requires returns)
