@@ -1,4 +1,5 @@
 // The ion balance.
+use crate::Verdict;
 use crate::ratio;
 use crate::ratio::Fraction;
 use crate::window;
@@ -6,13 +7,12 @@ use crate::window::Window;
 use reading::Analyte;
 use reading::Reading;
 use solution::Solution;
-use verdict::Verdict;
 ghost use mathlib.Core.Path.{_≡_};
 ghost use Prim.Native.Nat.{_≤_};
 ghost use Rattle.reading.specs.Analytes.{present};
 ghost use Rattle.record.specs.Record.{organicCarbon};
 ghost use Rattle.record.specs.Tested.{analyteAt};
-ghost use Rattle.verdict.specs.Numbers.{verdictNumber};
+ghost use Rattle.judge.specs.Numbers.{verdictNumber};
 ghost use Rattle.solution.specs.Solutions.{sumsIn};
 ghost use Rattle.solution.specs.Steps.{Bounded};
 ghost use Rattle.judge.specs.Prepared.{balanceIn};

@@ -1,13 +1,13 @@
 // The conductivity that the ions account for, against the measured one.
+use crate::Verdict;
 use crate::ratio;
 use crate::ratio::Fraction;
 use crate::window;
 use crate::window::Window;
 use solution::Solution;
-use verdict::Verdict;
 ghost use mathlib.Core.Path.{_≡_};
 ghost use Prim.Native.Nat.{_≤_};
-ghost use Rattle.verdict.specs.Numbers.{verdictNumber};
+ghost use Rattle.judge.specs.Numbers.{verdictNumber};
 ghost use Rattle.solution.specs.Solutions.{sumsIn};
 ghost use Rattle.solution.specs.Steps.{Bounded};
 ghost use Rattle.judge.specs.Prepared.{conductivityIn};

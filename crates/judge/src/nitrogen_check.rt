@@ -1,4 +1,5 @@
 // Total nitrogen against the nitrogen of nitrate and ammonium.
+use crate::Verdict;
 use crate::ratio;
 use crate::ratio::Fraction;
 use crate::window;
@@ -6,13 +7,12 @@ use crate::window::Window;
 use reading::Analyte;
 use reading::Mass;
 use reading::Reading;
-use verdict::Verdict;
 ghost use mathlib.Core.Path.{_≡_};
 ghost use mathlib.Core.Bool.{true};
 ghost use Prim.Native.Nat.{_+_, _≤_};
 ghost use Rattle.record.specs.Record.{readings, mostMass, ammonium, nitrate, totalNitrogen};
 ghost use Rattle.record.specs.Tested.{analyteAt};
-ghost use Rattle.verdict.specs.Numbers.{verdictNumber};
+ghost use Rattle.judge.specs.Numbers.{verdictNumber};
 ghost use Rattle.solution.specs.Held.{Small};
 ghost use Rattle.judge.specs.Corners.{decided};
 ghost use Rattle.judge.specs.Ratios.{nitrogenWindow};

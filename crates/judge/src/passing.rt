@@ -1,8 +1,8 @@
 // Whether checks passed, for a docket.
+use crate::Verdict;
 use crate::Verdicts;
-use verdict::Verdict;
 ghost use mathlib.Core.Path.{_≡_};
-ghost use Rattle.verdict.specs.Numbers.{verdictNumber};
+ghost use Rattle.judge.specs.Numbers.{verdictNumber};
 ghost use Rattle.judge.specs.Judgements.{numbersOf};
 ghost use Rattle.judge.specs.Passing.{isPassed, allPassed};
 

@@ -1,4 +1,5 @@
 // The sodium/chloride ratio.
+use crate::Verdict;
 use crate::ratio;
 use crate::ratio::Fraction;
 use crate::window;
@@ -7,13 +8,12 @@ use reading::Analyte;
 use reading::Reading;
 use solution::Charge;
 use solution::Solution;
-use verdict::Verdict;
 ghost use mathlib.Core.Path.{_≡_};
 ghost use mathlib.Core.Bool.{true};
 ghost use Prim.Native.Nat.{_≤_};
 ghost use Rattle.record.specs.Record.{sodium, chloride};
 ghost use Rattle.record.specs.Tested.{analyteAt};
-ghost use Rattle.verdict.specs.Numbers.{verdictNumber};
+ghost use Rattle.judge.specs.Numbers.{verdictNumber};
 ghost use Rattle.solution.specs.Solutions.{sumsIn};
 ghost use Rattle.solution.specs.Steps.{Bounded};
 ghost use Rattle.judge.specs.Corners.{decided};
