@@ -1,4 +1,4 @@
-// The calls of `docket` and `bottle`.
+// The calls of `docket`.
 use crate::lent;
 use crate::print;
 use docket::Answer;
@@ -67,9 +67,33 @@ pub fn offers(words: &[u32]) -> bool {
     true
 }
 
+// Where the record that starts at a place ends: after its words, or with the slice where fewer are left.
+fn record_end(at: usize, total: usize) -> usize
+    requires { ⌜ at < total ⌝ }
+    ensures { λ r. ⌜ (at < r) × (r ≤ total) ⌝ }
+{
+    if total - at < record::WORDS {
+        return total;
+    }
+    at + record::WORDS
+}
+
+// A fresh docket after records one after another. A rest that is no whole record is offered as it is.
+fn after_all(words: &[u32]) -> Docket {
+    let mut docket = docket::fresh();
+    let mut at: usize = 0;
+    while at < words.len() {
+        let end = record_end(at, words.len());
+        let offered = docket::offer(docket, &words[at..end]);
+        docket = offered.docket;
+        at = end;
+    }
+    docket
+}
+
 // Records one after another: the fresh docket after all of them, with the record that it holds if it took any.
 pub fn follow(words: &[u32]) -> bool {
-    let after = bottle::follow(docket::fresh(), words);
+    let after = after_all(words);
     let state = after.state;
     print::two_numbers(b"followed ", place_of(state), after.count);
     if after.count == 0 {

@@ -1,2 +1,0 @@
--- The laws behind this crate's contract.
-mod CuttingLaws
