@@ -11,7 +11,7 @@ use Rattle.chart.specs.Values.{allValues, mostSetup}
 use Rattle.chart.proofs.ValueLaws.{values-each}
 use Rattle.chart.specs.declared.setup.Setup.{Setup}
 use Rattle.chart.specs.Setups.{square, sumOf, squaresOf, setupOf}
-use Rattle.chart.specs.Room.{room, mostLimit, limitOf, InRoom, prepared, HasRoom}
+use Rattle.chart.specs.Steps.{room, mostLimit, limitOf, InRoom, prepared, HasRoom}
 use Rattle.chart.proofs.SpreadLaws.{never-negative}
 use Rattle.chart.proofs.SumLaws.{Summed, whole}
 

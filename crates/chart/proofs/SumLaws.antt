@@ -8,7 +8,7 @@ use lib.ListN.{length, getD, drop, drop-of-length-le}
 use lib.Seq.{drop-cons}
 use Rattle.chart.specs.Values.{mostSetup}
 use Rattle.chart.specs.Setups.{square, sumOf, squaresOf}
-use Rattle.chart.specs.Room.{InRoom}
+use Rattle.chart.specs.Steps.{InRoom}
 
 -- the invariant: s and q after i turns, of values that have room
 pub record Summed (a : List ℕ) (i s q : ℕ) : Type 0 where

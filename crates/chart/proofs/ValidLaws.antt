@@ -17,7 +17,7 @@ use Rattle.chart.specs.Values.{mostSetup, testOf, testedOutcome}
 use Rattle.chart.proofs.ValueLaws.{Valid, counts-within, valid-passes, refused-for-all}
 use Rattle.chart.specs.Setups.{setupOf}
 use Rattle.chart.specs.Charts.{firstWords, signalWords, signalsOf, lastWord, lastSignalOf}
-use Rattle.chart.specs.Room.{InRoom, prepared, HasRoom}
+use Rattle.chart.specs.Steps.{InRoom, prepared, HasRoom}
 use Rattle.chart.proofs.RoomLaws.{values-room, has-room}
 use Rattle.chart.proofs.WordLaws.{length-words, all-written}
 

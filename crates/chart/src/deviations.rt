@@ -4,7 +4,7 @@ ghost use mathlib.Core.Path.{_≡_};
 ghost use Prim.Native.Nat.{_≤_};
 ghost use Rattle.refusal.specs.Differences.{apart};
 ghost use Rattle.chart.specs.Setups.{beyond};
-ghost use Rattle.chart.specs.Room.{room, termsOf, HasRoom};
+ghost use Rattle.chart.specs.Steps.{room, termsOf, HasRoom};
 
 // Whether a value is beyond k deviations.
 pub fn beyond(setup: Setup, k: u64, value: u32) -> bool

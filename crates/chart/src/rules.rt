@@ -9,8 +9,7 @@ ghost use Prim.Native.Nat.{_<_, _≤_};
 ghost use lib.ListN.{length};
 ghost use Rattle.chart.specs.Rules.{pairBeyondTwo};
 ghost use Rattle.chart.specs.Values.{mostSetup};
-ghost use Rattle.chart.specs.Steps.{hasPartner, byMean, onOneSide, inOrder};
-ghost use Rattle.chart.specs.Room.{room, termsOf, InRoom, HasRoom};
+ghost use Rattle.chart.specs.Steps.{hasPartner, byMean, onOneSide, inOrder, room, termsOf, InRoom, HasRoom};
 
 // Rule 2. Few values are beyond 2 at all: the others are done before any earlier value is looked at.
 pub fn pair_beyond_two(setup: Setup, later: &[u32], i: usize) -> bool

@@ -6,7 +6,7 @@ ghost use mathlib.Core.Path.{_≡_};
 ghost use Prim.Native.Nat.{_+_, _<_, _≤_};
 ghost use lib.ListN.{length};
 ghost use Rattle.chart.specs.Rules.{weight, sevenOnOneSide, sevenInOrder, signalAt};
-ghost use Rattle.chart.specs.Room.{termsOf, InRoom, HasRoom};
+ghost use Rattle.chart.specs.Steps.{termsOf, InRoom, HasRoom};
 
 // How many values before it the rules of seven look at.
 const EARLIER: usize = 6;

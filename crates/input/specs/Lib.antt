@@ -1,1 +1,2 @@
+-- What the programs are told of standard input.
 pub mod Input

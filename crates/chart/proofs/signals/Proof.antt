@@ -5,7 +5,7 @@ use native.Mathlib.Omega.{arith}
 use Prim.Native.Nat.{_-_, _≤_}
 use lib.ListN.{length, drop, length-set}
 use Rattle.chart.specs.Charts.{firstWords}
-use Rattle.chart.specs.Room.{termsOf}
+use Rattle.chart.specs.Steps.{termsOf}
 use Rattle.refusal.proofs.LentLaws.{refused-before}
 use Rattle.chart.proofs.ValueLaws.{accepted-valid}
 use Rattle.chart.proofs.SpreadLaws.{never-negative}

@@ -1,7 +1,7 @@
 -- The lent part is the seven; where there is none, both rules add nothing.
 use native.Mathlib.Omega.{arith}
 use mathlib.Core.Path.{refl}
-use Rattle.chart.specs.Room.{termsOf}
+use Rattle.chart.specs.Steps.{termsOf}
 use Rattle.chart.proofs.RoomLaws.{room-part}
 use Rattle.chart.proofs.SevenLaws.{too-early, of-part}
 use borrow.Author.Needs.{needs}
