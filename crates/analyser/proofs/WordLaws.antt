@@ -13,7 +13,7 @@ use Rattle.refusal.proofs.PlaceLaws.{placed-whole}
 use Rattle.record.specs.Record.{recordWords}
 use Rattle.docket.specs.Terms.{Standing, DocketTerms}
 use Rattle.docket.specs.Terms.Standing.{«open», consistent, confirmed, unsettled}
-use Rattle.words.specs.Room.{placedWithin}
+use Rattle.words.specs.Placing.{placedWithin}
 use Rattle.words.proofs.Laws.{placed-all}
 use Rattle.analyser.specs.DocketWords.{standingNumber, docketWords, docketLength, standingFrom, standingIn, docketFrom}
 use Rattle.analyser.specs.Steps.{standingRead}

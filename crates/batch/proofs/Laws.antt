@@ -2,11 +2,11 @@
 use mathlib.Core.Path.{_≡_, refl, sym}
 use mathlib.Core.Bool.{Bool, true, false, cond}
 use mathlib.Core.List.{List, [], _∷_, _++_}
-use Prim.Native.Nat.{ℕ, zero, suc, _+_, _*_, _≤_, _<_}
+use Prim.Native.Nat.{ℕ, zero, suc, _+_, _*_, _^_, _<_}
 use native.Mathlib.Omega.{arith}
 use lib.Dec.{lit≤}
-use lib.ListN.{length, getD, drop}
-use lib.Seq.{drop-append-add}
+use lib.ListN.{length}
+use lib.Seq.{take-at, drop-append-add}
 use Rattle.refusal.specs.Outcome.{Outcome}
 use Rattle.refusal.specs.Outcome.Outcome.{given, refused}
 use Rattle.refusal.proofs.Outcomes.{never}
@@ -14,51 +14,51 @@ use Rattle.judge.proofs.Laws.{judged-valid, judged-most}
 use Rattle.words.proofs.TakenLaws.{Every}
 use Rattle.chart_section.specs.ChartSection.{Chart}
 use Rattle.batch.specs.Batches.{Sample, Batch, batchOf}
-use Rattle.batch.specs.Rows.{rowWords, flagged, rowOf, rowsOf, answerOf, answeredBy, batchAnswer, SmallRow, Listed}
+use Rattle.batch.specs.Rows.{flagWidth, rowWidths, rowWords, flagged, rowOf, rowsOf, answerOf, answeredBy, batchAnswer, rowAt, rowFields, SmallRow, Listed}
 use Rattle.batch.specs.Layout.{ReadsItsLayout}
 use Rattle.batch.proofs.TakenLaws.{Judged, batch-read}
+
+-- ---- a row has the words of its fields, and each field is within its width
+
+row-length : (cs : List Chart) (a : Sample) → length (rowOf cs a) ≡ rowWords
+row-length cs a = refl
 
 rows-length : (cs : List Chart) (ss : List Sample) → length (rowsOf cs ss) ≡ rowWords * length ss
 unfolding rowsOf
 rows-length cs [] = refl
 rows-length cs (a ∷ ss) = omega (arith, rows-length cs ss)
 
-flag-most : (b : Bool) → cond b 1 0 ≤ 9
-flag-most true = lit≤ tt
-flag-most false = lit≤ tt
+-- as many fields as widths, whatever the words of the row
+pub fields-count : (row : List ℕ) → length row ≡ rowWords → length (rowFields row) ≡ length rowWidths
+unfolding rowFields
+fields-count row h = h
 
--- the row of a judged record, at the front
-row-small : (cs : List Chart) (a : Sample) (rest : List ℕ) → Judged a → SmallRow (rowOf cs a ++ rest)
-row-small cs a rest j =
+flag-within : (b : Bool) → cond b 1 0 < 10 ^ flagWidth .digits
+flag-within true = lit≤ tt
+flag-within false = lit≤ tt
+
+-- the row of a judged record
+row-small : (cs : List Chart) (a : Sample) → Judged a → SmallRow (rowOf cs a)
+unfolding rowFields
+row-small cs a j =
+    let number = judged-valid (a .words) (a .verdicts) j .number .1 in
     let most = judged-most (a .words) (a .verdicts) j in
-    record {
-      number = judged-valid (a .words) (a .verdicts) j .number .1;
-      fields = λ k l h. field k l h (most .0) (most .1) (most .2) (most .3);
-    }
-  where
-    field : (k : ℕ) → 1 ≤ k → k < rowWords → a .verdicts .balance ≤ 4 → a .verdicts .conductivity ≤ 4 → a .verdicts .ratio ≤ 4 → a .verdicts .nitrogen ≤ 4
-        → getD (rowOf cs a ++ rest) k 0 ≤ 9
-    field zero l h x y z t = absurd (omega arith)
-    field (suc zero) l h x y z t = omega arith
-    field (suc (suc zero)) l h x y z t = omega arith
-    field (suc (suc (suc zero))) l h x y z t = omega arith
-    field (suc (suc (suc (suc zero)))) l h x y z t = omega arith
-    field (suc (suc (suc (suc (suc zero))))) l h x y z t = flag-most (flagged cs (a .words))
-    field (suc (suc (suc (suc (suc (suc k)))))) l h x y z t = absurd (omega arith)
+    (omega arith, (omega arith, (omega arith, (omega arith, (omega arith, (flag-within (flagged cs (a .words)), tt))))))
 
-rows-small : (cs : List Chart) (ss : List Sample) → Every Judged ss → (i : ℕ) → i < length ss → SmallRow (drop (rowWords * i) (rowsOf cs ss))
+-- it is the row that stands there
+rows-small : (cs : List Chart) (ss : List Sample) → Every Judged ss → (i : ℕ) → i < length ss → SmallRow (rowAt (rowsOf cs ss) (rowWords * i))
 unfolding rowsOf
 rows-small cs [] j i l = absurd (omega arith)
-rows-small cs (a ∷ ss) j zero l = row-small cs a (rowsOf cs ss) (j .0)
+rows-small cs (a ∷ ss) j zero l = rw (take-at (rowOf cs a) (rowsOf cs ss) rowWords (row-length cs a)) (row-small cs a (j .0))
 rows-small cs (a ∷ ss) j (suc i) l =
-    let e : rowWords * suc i ≡ length (rowOf cs a) + rowWords * i = omega arith in
+    let e : rowWords * suc i ≡ length (rowOf cs a) + rowWords * i = omega (arith, row-length cs a) in
     rw (e, drop-append-add (rowOf cs a) (rowsOf cs ss) (rowWords * i)) (rows-small cs ss (j .1) i (omega arith))
 
 answered : (x : Outcome Batch) (w : List ℕ) → answeredBy x ≡ given w → (b : Batch) × (x ≡ given b) × (answerOf b ≡ w)
 answered (given b) w e = let same : answerOf b ≡ w = cc in (b, refl, same)
 answered (refused n) w e = never e
 
--- at most 400 rows of six words, a sample number of at most six digits and one digit in every other field
+-- at most 400 rows, and each field of a row within its width
 pub answer-listed : (s w : List ℕ) → batchAnswer s ≡ given w → Listed w
 unfolding batchAnswer
 answer-listed s w e =

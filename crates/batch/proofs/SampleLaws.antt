@@ -13,12 +13,12 @@ use Rattle.refusal.specs.declared.Refusal.the-variants as refusal
 use Rattle.record.specs.Record.{recordWords}
 use Rattle.judge.specs.Judgements.{Four, judgementOf}
 use Rattle.batch.specs.Batches.{Sample, mostSamples, sampleOf, samplesOf}
-use Rattle.batch.specs.Rows.{rowWords, rowWith}
+use Rattle.batch.specs.Rows.{rowWords, mostAnswer, rowWith}
 use Rattle.refusal.specs.Lent.{placed}
-use Rattle.batch.specs.Steps.{bufferWords, flaggedBy, rowBy, rowsBy, samplesAnswer}
+use Rattle.batch.specs.Steps.{flaggedBy, rowBy, rowsBy, samplesAnswer}
 use Rattle.refusal.proofs.PlaceLaws.{placed-take, length-placed}
 use Rattle.words.specs.FromFront.{Read, taken, many}
-use Rattle.words.specs.Room.{placedWithin}
+use Rattle.words.specs.Placing.{placedWithin}
 use Rattle.words.proofs.SliceLaws.{part-of}
 use Rattle.words.proofs.ManyLaws.{then-taken, then-refused, many-none, many-refused, many-next, section-short, section-over, section-begins}
 use Rattle.words.proofs.Laws.{placed-all}
@@ -68,14 +68,14 @@ pub record Making (words : List ℕ) (count : ℕ) (es gs buffer : List ℕ) (at
   pub few : count ≤ mostSamples
   pub inside : at ≤ length words
   pub made : size ≡ 1 + rowWords * i
-  pub room : length buffer ≡ bufferWords
+  pub room : length buffer ≡ mostAnswer
   pub before : List Sample
   pub counted : length before ≡ i
   pub rest : samplesOf words ≡ many sampleAfter (count - i) before (drop at words)
   pub rows : take size buffer ≡ count ∷ rowsBy es gs before
 
 pub making-begins : (words : List ℕ) (count : ℕ) (es gs buffer : List ℕ)
-    → 1 ≤ length words → getD words 0 0 ≡ count → count ≤ mostSamples → length buffer ≡ bufferWords → getD buffer 0 0 ≡ count
+    → 1 ≤ length words → getD words 0 0 ≡ count → count ≤ mostSamples → length buffer ≡ mostAnswer → getD buffer 0 0 ≡ count
     → Making words count es gs buffer 1 1 0
 unfolding rowsBy
 making-begins words count es gs buffer h e l b f =

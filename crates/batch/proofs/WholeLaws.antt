@@ -19,7 +19,7 @@ use Rattle.refusal.specs.declared.Written.the-variants as written
 use Rattle.refusal.proofs.LentLaws.{Answers, refused-before, too-short, written as written-whole}
 use Rattle.refusal.proofs.PlaceLaws.{placed-front}
 use Rattle.words.specs.FromFront.{Read, taken, then}
-use Rattle.words.specs.Room.{placedWithin}
+use Rattle.words.specs.Placing.{placedWithin}
 use Rattle.words.proofs.Laws.{placed-all}
 use Rattle.words.proofs.SliceLaws.{rest-of, front-of}
 use Rattle.words.proofs.ManyLaws.{then-taken, then-refused}

@@ -3,9 +3,9 @@
 use mathlib.Core.Path.{_≡_}
 use mathlib.Core.Bool.{Bool, false, _&&_, _||_, not, cond}
 use mathlib.Core.List.{List, [], _∷_, _++_}
-use Prim.Native.Nat.{ℕ, _+_, _*_, _≤_, _<_}
+use Prim.Native.Nat.{ℕ, _+_, _*_, _^_, _≤_, _<_}
 use lib.Dec.{eqb}
-use lib.ListN.{length, getD, drop}
+use lib.ListN.{length, getD, take, drop}
 use Rattle.refusal.specs.Outcome.{Outcome}
 use Rattle.refusal.specs.Outcome.Outcome.{given, refused}
 use Rattle.record.specs.Record.{sampleNumber, hasReading}
@@ -13,9 +13,43 @@ use Rattle.judge.specs.Judgements.{Four}
 use Rattle.chart_section.specs.ChartSection.{Chart, signalOf}
 use Rattle.batch.specs.Batches.{Sample, Batch, mostSamples, batchOf}
 
+-- ---- the fields of a row, and how wide each is
+
+-- the words that a field takes in the answer, and the digits that it has at most where it is printed
+pub record Width : Type 0 where
+  pub words : ℕ
+  pub digits : ℕ
+
+-- 'number': the greatest that a record may have is of six digits
+abbrev pub numberWidth : Width
+numberWidth = record { words = 1; digits = 6 }
+
+-- a verdict, 0 to 4
+abbrev pub verdictWidth : Width
+verdictWidth = record { words = 1; digits = 1 }
+
+-- '1 if some chart .., else 0'
+abbrev pub flagWidth : Width
+flagWidth = record { words = 1; digits = 1 }
+
+-- 'number, four verdicts in the order above, and 1 if some chart .., else 0'
+abbrev pub rowWidths : List Width
+rowWidths = numberWidth ∷ verdictWidth ∷ verdictWidth ∷ verdictWidth ∷ verdictWidth ∷ flagWidth ∷ []
+
+-- the words of such fields one after another
+abbrev pub wordsIn : List Width → ℕ
+wordsIn [] = 0
+wordsIn (field ∷ rest) = field .words + wordsIn rest
+
 -- 'six words a sample'
 abbrev pub rowWords : ℕ
-rowWords = 6
+rowWords = wordsIn rowWidths
+
+-- 'the sample count, then six words a sample': the words of the longest answer
+abbrev pub mostAnswer : ℕ
+mostAnswer = 1 + mostSamples * rowWords
+
+-- ---- the row of a sample
 
 unfoldable pub flagged : List Chart → List ℕ → Bool
 flagged [] w = false
@@ -42,13 +76,27 @@ answeredBy (refused n) = refused n
 unfoldable pub batchAnswer : List ℕ → Outcome (List ℕ)
 batchAnswer s = answeredBy (batchOf s)
 
--- what every answer keeps to: at most 400 rows of six words, each with a sample number of at most six digits and one digit in
--- every other field
-pub record SmallRow (w : List ℕ) : Type 0 where
-  pub number : getD w 0 0 ≤ 999_999
-  pub fields : (k : ℕ) → 1 ≤ k → k < rowWords → getD w k 0 ≤ 9
+-- ---- what every answer keeps to: at most 400 rows, and each field of a row within its width
+
+-- the row that begins at a word
+abbrev pub rowAt : List ℕ → ℕ → List ℕ
+rowAt w from = take rowWords (drop from w)
+
+-- the fields of a row as they are printed, by its words: each word is one
+unfoldable pub rowFields : List ℕ → List ℕ
+rowFields row = row
+
+-- as many fields as widths, and none has more digits than its width
+abbrev pub FieldsFit : List Width → List ℕ → Type 0
+FieldsFit [] [] = Unit {0}
+FieldsFit [] (n ∷ fields) = ⊥
+FieldsFit (width ∷ widths) [] = ⊥
+FieldsFit (width ∷ widths) (n ∷ fields) = (n < 10 ^ width .digits) × FieldsFit widths fields
+
+abbrev pub SmallRow : List ℕ → Type 0
+SmallRow row = FieldsFit rowWidths (rowFields row)
 
 pub record Listed (w : List ℕ) : Type 0 where
   pub count : getD w 0 0 ≤ mostSamples
   pub size : length w ≡ 1 + rowWords * getD w 0 0
-  pub rows : (i : ℕ) → i < getD w 0 0 → SmallRow (drop (1 + rowWords * i) w)
+  pub rows : (i : ℕ) → i < getD w 0 0 → SmallRow (rowAt w (1 + rowWords * i))

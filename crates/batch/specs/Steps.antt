@@ -3,7 +3,7 @@
 use mathlib.Core.Path.{_≡_}
 use mathlib.Core.Bool.{Bool, false, _&&_, _||_, not}
 use mathlib.Core.List.{List, [], _∷_, _++_}
-use Prim.Native.Nat.{ℕ, _+_, _*_, _≤_}
+use Prim.Native.Nat.{ℕ, _≤_}
 use lib.Dec.{eqb}
 use lib.ListN.{length, take}
 use Rattle.refusal.specs.Outcome.{Outcome}
@@ -13,8 +13,8 @@ use Rattle.refusal.specs.declared.Written.{Written}
 use Rattle.refusal.specs.declared.Written.the-variants as written
 use Rattle.record.specs.Record.{hasReading}
 use Rattle.words.specs.FromFront.{then}
-use Rattle.batch.specs.Batches.{Sample, mostSamples, samplesOf, nothingLeft}
-use Rattle.batch.specs.Rows.{rowWords, rowWith}
+use Rattle.batch.specs.Batches.{Sample, samplesOf, nothingLeft}
+use Rattle.batch.specs.Rows.{rowWith}
 
 -- `flagged` by the columns
 unfoldable pub flaggedBy : List ℕ → List ℕ → List ℕ → Bool
@@ -32,10 +32,6 @@ rowsBy es gs (a ∷ l) = rowBy es gs a ++ rowsBy es gs l
 -- what is answered to the samples' section and what is left after it
 unfoldable pub samplesAnswer : List ℕ → List ℕ → List ℕ → Outcome (List ℕ)
 samplesAnswer es gs s = then (samplesOf s) (λ ss rest. nothingLeft rest (given (length ss ∷ rowsBy es gs ss)))
-
--- a buffer that the longest answer fits
-abbrev pub bufferWords : ℕ
-bufferWords = 1 + mostSamples * rowWords
 
 -- how making an answer x in a buffer ended: its first words are the answer
 abbrev pub MadeSaid : Written → Outcome (List ℕ) → List ℕ → Type 0

@@ -1,6 +1,7 @@
 // Judges a batch (document 01, 'A batch'): control charts, then samples. The answer is the sample count, then a row a sample.
 mod rows;
 mod samples;
+pub mod widths;
 
 use chart_section::Ended;
 use refusal::Refusal;
@@ -14,8 +15,10 @@ ghost use Rattle.batch.specs.Steps.{samplesAnswer};
 
 pub const MOST_SAMPLES: usize = 400;
 
-// The words of a row.
-pub const ROW_WORDS: usize = 6;
+// The words of a row: those of its fields.
+pub const ROW_WORDS: usize = widths::NUMBER_WORDS
+    + widths::VERDICTS * widths::VERDICT_WORDS
+    + widths::FLAG_WORDS;
 
 // The words of the longest answer.
 pub const MOST_ANSWER: usize = 1 + MOST_SAMPLES * ROW_WORDS;

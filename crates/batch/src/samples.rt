@@ -9,12 +9,13 @@ ghost use mathlib.Core.Path.{_≡_};
 ghost use Prim.Native.Nat.{_≤_};
 ghost use lib.ListN.{length, getD};
 ghost use Rattle.batch.specs.Batches.{mostSamples};
-ghost use Rattle.batch.specs.Steps.{samplesAnswer, MadeSaid, bufferWords};
+ghost use Rattle.batch.specs.Rows.{mostAnswer};
+ghost use Rattle.batch.specs.Steps.{samplesAnswer, MadeSaid};
 
 // Makes the answer to the samples' section in a buffer: their count, then a row for each. The words are all that is left of
 // the batch. What a refusal leaves in the buffer is of no use.
 pub fn make_rows(words: &[u32], elements: &[u32], signals: &[u32], buffer: &mut [u32]) -> Written
-    requires { ⌜ (length (now elements) ≡ length (now signals)) × (length (now buffer) ≡ bufferWords) ⌝ }
+    requires { ⌜ (length (now elements) ≡ length (now signals)) × (length (now buffer) ≡ mostAnswer) ⌝ }
     ensures { λ r. ⌜ MadeSaid r (samplesAnswer (now (elements .entry)) (now (signals .entry)) (now (words .entry))) (now (buffer .exit)) ⌝ }
 {
     if words.len() < 1 {
@@ -36,7 +37,7 @@ fn make_all(
     signals: &[u32],
     buffer: &mut [u32],
 ) -> Written
-    requires { ⌜ (length (now elements) ≡ length (now signals)) × (length (now buffer) ≡ bufferWords) ⌝ }
+    requires { ⌜ (length (now elements) ≡ length (now signals)) × (length (now buffer) ≡ mostAnswer) ⌝ }
     requires { ⌜ (1 ≤ length (now words)) × (getD (now words) 0 0 ≡ count) × (count ≤ mostSamples) × (getD (now buffer) 0 0 ≡ count) ⌝ }
     ensures { λ r. ⌜ MadeSaid r (samplesAnswer (now (elements .entry)) (now (signals .entry)) (now (words .entry))) (now (buffer .exit)) ⌝ }
 {

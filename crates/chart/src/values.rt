@@ -5,9 +5,9 @@ ghost use Rattle.chart.specs.Values.{allValues, countsFit, testOf, teste
 
 const LEAST_SETUP: usize = 10;
 
-const MOST_SETUP: usize = 64;
+pub const MOST_SETUP: usize = 64;
 
-const MOST_LATER: usize = 64;
+pub const MOST_LATER: usize = 64;
 
 // In µg/L.
 const GREATEST_VALUE: u32 = 200000;

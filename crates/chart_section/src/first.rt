@@ -1,4 +1,5 @@
 // The chart at the front of the words.
+use crate::HEAD_WORDS;
 use crate::elements;
 use chart::Last;
 use refusal::Refusal;
@@ -9,9 +10,6 @@ ghost use lib.ListN.{length, drop};
 ghost use Rattle.chart.specs.Values.{countsFit};
 ghost use Rattle.chart_section.specs.ChartSection.{headWords, valuesOf, chartOf};
 ghost use Rattle.chart_section.specs.Steps.{ChartSaid};
-
-// A chart's words before its values: element, setup count and later count.
-const HEAD_WORDS: usize = 3;
 
 // What reading a chart finds: its element, the signal at its last later value and how many words it has; or why it is refused.
 pub enum ChartRead {

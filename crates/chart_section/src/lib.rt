@@ -9,6 +9,9 @@ ghost use Rattle.chart_section.specs.Columns.{columnsOf, termsOf};
 
 pub const MOST_CHARTS: usize = 10;
 
+// A chart's words before its values: element, setup count and later count.
+pub const HEAD_WORDS: usize = 3;
+
 // How reading the charts' section ended: whole, with so many words, or refused.
 pub enum Ended {
     Whole(usize),

@@ -9,7 +9,7 @@ use mir.Val.{Fits}
 use lib.ListN.{length, getD, take, drop, length-take, List·getD-eq-default}
 use lib.Seq.{getD-take, length-take-le}
 use Rattle.words.specs.Words.{wordsOf, wordBytes}
-use Rattle.words.specs.Room.{within, placedWithin}
+use Rattle.words.specs.Placing.{within, placedWithin}
 use Rattle.words.proofs.Laws.{unpacked}
 use Rattle.input.specs.Input.{mostBytes, Came}
 

@@ -5,7 +5,7 @@ use mathlib.Core.List.{List}
 use Prim.Native.Nat.{ℕ, _*_, _≤_, _<_, min}
 use lib.ListN.{length, getD}
 use Rattle.words.specs.Words.{wordsOf, wordBytes}
-use Rattle.words.specs.Room.{placedWithin}
+use Rattle.words.specs.Placing.{placedWithin}
 use Rattle.input.specs.declared.Got.{Got}
 
 -- the most words that one call reads

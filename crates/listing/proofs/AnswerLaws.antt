@@ -14,17 +14,12 @@ use Rattle.refusal.specs.Outcome.{Outcome}
 use Rattle.refusal.specs.Outcome.Outcome.{given, refused}
 use Rattle.refusal.specs.Lent.{fitting, lengthOf, lentAfter, writtenOutcome}
 use Rattle.refusal.proofs.Outcomes.{never}
-use Rattle.batch.specs.Batches.{mostSamples}
-use Rattle.batch.specs.Rows.{rowWords, batchAnswer, Listed}
+use Rattle.batch.specs.Rows.{rowWords, mostAnswer, batchAnswer, Listed}
 use Rattle.batch.proofs.Laws.{answer-listed}
 use Rattle.listing.specs.Listing.{listingText, refusedText, textOf, mostText}
 use Rattle.listing.specs.Steps.{answerIn, Answered}
 use Rattle.listing.proofs.LineLaws.{listing-front}
-use Rattle.listing.proofs.RoomLaws.{listed-fits}
-
--- the words of the longest answer
-abbrev pub mostAnswer : ℕ
-mostAnswer = 1 + mostSamples * rowWords
+use Rattle.listing.proofs.LengthLaws.{listed-fits}
 
 -- every answer fits
 roomy : (answer : Outcome (List ℕ)) → ((w : List ℕ) → answer ≡ given w → Listed w) → fitting mostAnswer answer ≡ answer

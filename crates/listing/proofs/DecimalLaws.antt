@@ -32,16 +32,20 @@ enough (suc k) n h (no l) =
     ∙ ap (λ (s : List ℕ). s ++ (digit (n % 10) ∷ [])) (enough k (n / 10) fewer (decLt (n / 10) 10))
     ∙ sym (more-digits (suc k) n ten)
 
+-- how many digits may stand before the last
+abbrev others : ℕ
+others = mostDigits - 1
+
 -- the number as it is written: its one digit, or its last digit after the number of the others
 pub decimal-one : (n : ℕ) → n < 10 → decimal n ≡ digit n ∷ []
 unfolding decimal
-decimal-one n h = one-digit 9 n h
+decimal-one n h = one-digit others n h
 
 pub decimal-more : (n : ℕ) → 10 ≤ n → n < 10 ^ mostDigits → decimal n ≡ decimal (n / 10) ++ (digit (n % 10) ∷ [])
 unfolding decimal
 decimal-more n h l =
-    more-digits 9 n h
-    ∙ ap (λ (s : List ℕ). s ++ (digit (n % 10) ∷ [])) (sym (enough 8 (n / 10) (omega arith) (decLt (n / 10) 10)))
+    more-digits others n h
+    ∙ ap (λ (s : List ℕ). s ++ (digit (n % 10) ∷ [])) (sym (enough (others - 1) (n / 10) (omega arith) (decLt (n / 10) 10)))
 
 -- how many digits
 pub length-one : (n : ℕ) → n < 10 → length (decimal n) ≡ 1
@@ -90,11 +94,12 @@ few (suc k) n (no l) =
 
 pub decimal-some : (n : ℕ) → 0 < length (decimal n)
 unfolding decimal
-decimal-some n = some-digits 9 n (decLt n 10)
+decimal-some n = some-digits others n (decLt n 10)
 
-pub decimal-within : (j n : ℕ) → n < 10 ^ suc j → length (decimal n) ≤ suc j
+pub decimal-within : (digits n : ℕ) → 1 ≤ digits → n < 10 ^ digits → length (decimal n) ≤ digits
 unfolding decimal
-decimal-within j n h = at-most mostDigits j n h (decLt n 10)
+decimal-within zero n some h = absurd (omega arith)
+decimal-within (suc j) n some h = at-most mostDigits j n h (decLt n 10)
 
 pub decimal-most : (n : ℕ) → length (decimal n) ≤ mostDigits
 unfolding decimal
@@ -150,4 +155,4 @@ spelled (suc k) n h (no l) =
 
 pub decimal-truth : DecimalTruth
 unfolding decimal
-decimal-truth n h = spelled 9 n h (decLt n 10)
+decimal-truth n h = spelled others n h (decLt n 10)

@@ -2,6 +2,6 @@
 mod DecimalLaws
 mod PartLaws
 mod LineLaws
-mod RoomLaws
+mod LengthLaws
 mod AnswerLaws
 mod TextLaws

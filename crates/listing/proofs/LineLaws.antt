@@ -1,39 +1,42 @@
 -- Lines from the front: the next field of a row, the next row of many; and rows that other words stand behind.
-use mathlib.Core.Path.{_≡_, refl, sym, _∙_}
+use mathlib.Core.Path.{_≡_, refl, sym}
 use mathlib.Core.List.{List, [], _∷_, _++_}
 use Prim.Native.Nat.{ℕ, zero, suc, _+_, _-_, _*_, _≤_, _<_}
 use native.Mathlib.Numerals.{add-one}
 use native.Mathlib.Omega.{arith}
 use lib.ListN.{length, getD, drop, length-take, length-drop, drop-of-length-le}
-use lib.Seq.{drop-cons, drop-drop, append-snoc, take-append-le, drop-append-le, getD-take, getD-drop}
-use Rattle.batch.specs.Rows.{rowWords}
+use lib.Seq.{drop-cons, drop-drop, append-snoc, take-append-le, drop-append-le}
+use Rattle.batch.specs.Rows.{rowWidths, rowWords, rowAt, rowFields}
+use Rattle.batch.proofs.Laws.{fields-count}
 use Rattle.listing.specs.Decimal.{decimal}
 use Rattle.listing.specs.Listing.{ending, line, rowLine, rowLines, listingText}
-use Rattle.listing.specs.Steps.{rowAt}
 use Rattle.listing.proofs.PartLaws.{Begins}
+
+-- the next of so many fields, with what ends it, and the rest of the line
+line-next : (fields : List ℕ) (size i : ℕ) → length fields ≡ size → i < size
+    → line (drop i fields) ≡ (decimal (getD fields i 0) ++ (ending (size - 1 - i) ∷ [])) ++ line (drop (i + 1) fields)
+unfolding line
+line-next fields size i e h =
+    let after : length (drop (suc i) fields) ≡ size - 1 - i = omega (arith, length-drop (suc i) fields) in
+    rw (add-one i, drop-cons fields i 0 (omega arith), after)
+    (sym (append-snoc (decimal (getD fields i 0)) (ending (size - 1 - i)) (line (drop (suc i) fields))))
 
 -- the fields of a row
 module _ (words : List ℕ) (from : ℕ) (whole : from + rowWords ≤ length words) where
-  row-length : length (rowAt words from) ≡ rowWords
-  row-length = omega (arith, length-take rowWords (drop from words), length-drop from words)
+  abbrev fields : List ℕ
+  fields = rowFields (rowAt words from)
 
-  -- the next, with what ends it, and the rest of the line
-  pub row-next : (i : ℕ) → i < rowWords
-      → Begins (line (drop i (rowAt words from))) (decimal (getD words (from + i) 0) ++ (ending (rowWords - 1 - i) ∷ [])) (line (drop (i + 1) (rowAt words from)))
-  unfolding line
-  row-next i h =
-      let row : List ℕ = rowAt words from in
-      let after : length (drop (suc i) row) ≡ rowWords - 1 - i = omega (arith, row-length, length-drop (suc i) row) in
-      let field : getD row i 0 ≡ getD words (from + i) 0 = getD-take rowWords (drop from words) i 0 h ∙ getD-drop from words i 0 in
-      record {
-        with =
-            rw (add-one i, drop-cons row i 0 (omega (arith, row-length)), after, field)
-            (sym (append-snoc (decimal (getD words (from + i) 0)) (ending (rowWords - 1 - i)) (line (drop (suc i) row))));
-      }
+  count : length fields ≡ length rowWidths
+  count = fields-count (rowAt words from) (omega (arith, length-take rowWords (drop from words), length-drop from words))
 
-  pub row-ends : (i : ℕ) → rowWords ≤ i → line (drop i (rowAt words from)) ≡ []
+  -- the next, as the code has it
+  pub row-next : {n : ℕ} (i : ℕ) → i < length rowWidths → n ≡ getD fields i 0
+      → Begins (line (drop i fields)) (decimal n ++ (ending (length rowWidths - 1 - i) ∷ [])) (line (drop (i + 1) fields))
+  row-next i h is = record { with = rw is (line-next fields (length rowWidths) i count h) }
+
+  pub row-ends : (i : ℕ) → length rowWidths ≤ i → line (drop i fields) ≡ []
   unfolding line
-  row-ends i h = rw (drop-of-length-le (rowAt words from) {i = i} (omega (arith, row-length)))
+  row-ends i h = rw (drop-of-length-le fields {i = i} (omega (arith, count)))
 
 -- a row and those after it
 pub rows-next : (words : List ℕ) (from left : ℕ) → 0 < left

@@ -1,6 +1,6 @@
--- The text of bytes, by the test of their length; and a text made apart, which is lent from its start.
+-- The most bytes of a batch; the text of bytes, by the test of their length; and a text made apart, which is lent from its start.
 use mathlib.Core.Bool.{true, false}
-use mathlib.Core.Path.{_≡_, ap, _∙_}
+use mathlib.Core.Path.{_≡_, refl, ap, _∙_}
 use mathlib.Core.List.{List, _++_}
 use Prim.Native.Nat.{ℕ, _-_, _%_, _≤_}
 use native.Mathlib.Omega.{arith}
@@ -13,9 +13,13 @@ use Rattle.refusal.specs.Numbers.{numberOf}
 use Rattle.refusal.proofs.Testing.{both}
 use Rattle.words.specs.Words.{wordBytes, wordsOf}
 use Rattle.batch.specs.Rows.{batchAnswer}
-use Rattle.listing.specs.Input.{mostBytes, isInput}
+use Rattle.listing.specs.Input.{mostBytes, ByteLimit, isInput}
 use Rattle.listing.specs.Listing.{refusedText, textOf, listText, TextFits}
-use Rattle.listing.proofs.RoomLaws.{text-fits}
+use Rattle.listing.proofs.LengthLaws.{text-fits}
+
+-- computed: a batch that has the most of all is as long as the document says
+pub byte-limit : ByteLimit
+byte-limit = refl
 
 module _ (b : List ℕ) where
   -- bytes of another length are refused before any other test

@@ -18,9 +18,9 @@ unfoldable pub decimalFrom : ℕ → ℕ → List ℕ
 decimalFrom zero n = []
 decimalFrom (suc places) n = cond (ltb n 10) (digit n ∷ []) (decimalFrom places (n / 10) ++ (digit (n % 10) ∷ []))
 
--- a word of 32 bits has ten digits at most
+-- a number of 64 bits has twenty digits at most
 abbrev pub mostDigits : ℕ
-mostDigits = 10
+mostDigits = 20
 
 unfoldable pub decimal : ℕ → List ℕ
 decimal n = decimalFrom mostDigits n
@@ -37,5 +37,6 @@ pub record Spelled (n : ℕ) (text : List ℕ) : Type 0 where
   pub some : 0 < length text
   pub front : 1 < length text → codeOfZero < getD text 0 0
 
+-- so it is of every number of at most so many digits, and with that of every number of 64 bits
 abbrev pub DecimalTruth : Type 0
 DecimalTruth = (n : ℕ) → n < 10 ^ mostDigits → Spelled n (decimal n)

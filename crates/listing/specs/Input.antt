@@ -1,13 +1,27 @@
 -- Document 01, 'A batch': which bytes the listing program reads as the words of a batch.
 use mathlib.Core.Bool.{Bool, _&&_}
 use mathlib.Core.List.{List}
-use Prim.Native.Nat.{ℕ, _%_}
+use mathlib.Core.Path.{_≡_}
+use Prim.Native.Nat.{ℕ, _+_, _*_, _%_}
 use lib.Dec.{leb, eqb}
 use lib.ListN.{length}
+use Rattle.record.specs.Record.{recordWords}
+use Rattle.chart.specs.Values.{mostSetup, mostLater}
 use Rattle.words.specs.Words.{wordBytes}
+use Rattle.chart_section.specs.ChartSection.{mostCharts, headWords}
+use Rattle.batch.specs.Batches.{mostSamples}
+
+-- 'Two sections, each after its count: charts (0 to 10: element .., setup count, later count, values), then samples (0 to 400
+-- records)': the words of a batch that has the most of all
+abbrev pub mostWords : ℕ
+mostWords = (1 + mostCharts * (headWords + (mostSetup + mostLater))) + (1 + mostSamples * recordWords)
 
 abbrev pub mostBytes : ℕ
-mostBytes = 45_248
+mostBytes = wordBytes * mostWords
+
+-- that is document 01's limit, 'over 45,248'
+abbrev pub ByteLimit : Type 0
+ByteLimit = mostBytes ≡ 45_248
 
 -- 'Bytes not a multiple of 4, or over 45,248, give 8 before any other test': those that are read
 unfoldable pub isInput : List ℕ → Bool

@@ -1,14 +1,15 @@
 -- Document 01, 'A batch': the text that the listing program prints of a batch.
 use mathlib.Core.Bool.{cond}
 use mathlib.Core.List.{List, [], _∷_, _++_}
-use Prim.Native.Nat.{ℕ, zero, suc, _≤_}
+use Prim.Native.Nat.{ℕ, zero, suc, _+_, _*_, _≤_}
 use lib.Dec.{eqb}
 use lib.ListN.{length, getD, take, drop}
 use Rattle.refusal.specs.declared.Refusal.the-variants as refusal
 use Rattle.refusal.specs.Numbers.{numberOf}
 use Rattle.refusal.specs.Outcome.{Outcome, demand}
 use Rattle.refusal.specs.Outcome.Outcome.{given, refused}
-use Rattle.batch.specs.Rows.{rowWords, batchAnswer}
+use Rattle.batch.specs.Batches.{mostSamples}
+use Rattle.batch.specs.Rows.{Width, rowWidths, rowWords, batchAnswer, rowFields}
 use Rattle.words.specs.Words.{wordsOf}
 use Rattle.listing.specs.Input.{isInput}
 use Rattle.listing.specs.Decimal.{decimal}
@@ -33,9 +34,9 @@ unfoldable pub line : List ℕ → List ℕ
 line [] = []
 line (field ∷ rest) = decimal field ++ (ending (length rest) ∷ line rest)
 
--- 'a row a line': the fields are the row's words
+-- 'a row a line'
 unfoldable pub rowLine : List ℕ → List ℕ
-rowLine row = line row
+rowLine row = line (rowFields row)
 
 -- so many rows, one after the other
 unfoldable pub rowLines : ℕ → List ℕ → List ℕ
@@ -58,9 +59,18 @@ textOf (refused n) = refusedText n
 unfoldable pub listText : List ℕ → List ℕ
 listText bytes = textOf (demand (isInput bytes) (numberOf refusal.BatchLength) (batchAnswer (wordsOf bytes)))
 
--- the longest text: a first line of at most 4 bytes (400), and 400 rows of at most 17 (a number of six digits, five of one, six bytes after them)
+-- 'count on the first line': at most 400
+abbrev pub countWidth : Width
+countWidth = record { words = 1; digits = 3 }
+
+-- the longest line of fields: the most digits of each, and the byte after it
+abbrev pub longestLine : List Width → ℕ
+longestLine [] = 0
+longestLine (field ∷ rest) = (field .digits + 1) + longestLine rest
+
+-- the longest text: the line of the count, and 400 rows
 abbrev pub mostText : ℕ
-mostText = 6_804
+mostText = longestLine (countWidth ∷ []) + mostSamples * longestLine rowWidths
 
 -- no text is longer
 abbrev pub TextFits : Type 0

@@ -1,13 +1,13 @@
--- What the steps of the code are stated by. Only the contracts of private functions cite this file.
+-- The code's own form, which a reader of the promises can pass over: only the contracts of private functions cite it.
 use mathlib.Core.List.{List}
 use Prim.Native.Nat.{ℕ}
-use lib.ListN.{take, drop}
+use lib.ListN.{take}
 use Rattle.refusal.specs.declared.Written.{Written}
 use Rattle.refusal.specs.declared.Written.the-variants as written
 use Rattle.refusal.specs.Numbers.{numberOf}
 use Rattle.refusal.specs.Outcome.{Outcome}
 use Rattle.refusal.specs.Outcome.Outcome.{given, refused}
-use Rattle.batch.specs.Rows.{rowWords, Listed}
+use Rattle.batch.specs.Rows.{Listed}
 
 -- what was answered to a batch, by what the call returned and the slice that it wrote to
 abbrev pub answerIn : Written → List ℕ → Outcome (List ℕ)
@@ -18,7 +18,3 @@ answerIn (written.Refused why) words = refused (numberOf why)
 abbrev pub Answered : Written → List ℕ → Type 0
 Answered (written.Length n) words = Listed (take n words)
 Answered (written.Refused why) words = Unit {0}
-
--- the words of the row that begins at a word
-abbrev pub rowAt : List ℕ → ℕ → List ℕ
-rowAt words from = take rowWords (drop from words)

@@ -6,7 +6,7 @@ ghost use Rattle.refusal.specs.Lent.{placed};
 ghost use Rattle.listing.specs.Decimal.{digit, decimal};
 
 // Writes a number at a place, the last digit first, and answers the place after it.
-pub fn put_number(text: &mut [u8], at: usize, n: u32) -> usize
+pub fn put_number(text: &mut [u8], at: usize, n: u64) -> usize
     requires { ⌜ at + length (decimal n) ≤ length (now text) ⌝ }
     ensures { λ r. ⌜ r ≡ at + length (decimal n) ⌝ }
     ensures { λ _. ⌜ now (text .exit) ≡ placed (now (text .entry)) at (decimal n) ⌝ }
@@ -24,7 +24,7 @@ pub fn put_number(text: &mut [u8], at: usize, n: u32) -> usize
 }
 
 // How many digits a number has.
-fn digits(n: u32) -> usize
+fn digits(n: u64) -> usize
     ensures { λ r. ⌜ r ≡ length (decimal n) ⌝ }
 {
     let mut count: usize = 1;
@@ -36,7 +36,7 @@ fn digits(n: u32) -> usize
     count
 }
 
-fn digit_code(d: u32) -> u8
+fn digit_code(d: u64) -> u8
     requires { ⌜ d < 10 ⌝ }
     ensures { λ r. ⌜ r ≡ digit d ⌝ }
 {

@@ -1,5 +1,6 @@
 // A batch judged, and the text of its answer: each `put` writes to the start of `text`, and answers how long the text is.
 use crate::MOST_BYTES;
+use crate::MOST_WORDS;
 use crate::lines;
 use refusal::Written;
 use words::WORD_BYTES;
@@ -13,9 +14,6 @@ ghost use Rattle.words.specs.Words.{wordsOf};
 ghost use Rattle.listing.specs.Input.{mostBytes, isInput};
 ghost use Rattle.listing.specs.Listing.{textOf, mostText};
 ghost use Rattle.listing.specs.Steps.{answerIn, Answered};
-
-// The most words that a batch has.
-const MOST_WORDS: usize = MOST_BYTES / WORD_BYTES;
 
 // Whether bytes are whole words, and no more of them than a batch has.
 pub fn is_input(bytes: &[u8]) -> bool

@@ -5,21 +5,43 @@ mod judging;
 mod lending;
 mod lines;
 
+use batch::MOST_SAMPLES;
+use batch::widths;
+use chart::values::MOST_LATER;
+use chart::values::MOST_SETUP;
+use chart_section::HEAD_WORDS;
+use chart_section::MOST_CHARTS;
 use refusal::Refusal;
 use refusal::Written;
+use words::WORD_BYTES;
 ghost use mathlib.Core.Path.{_≡_};
 ghost use Prim.Native.Nat.{_≤_};
 ghost use lib.ListN.{length};
 ghost use Rattle.refusal.specs.Outcome.Outcome.{given};
 ghost use Rattle.refusal.specs.Lent.{fitting, lengthOf, lentAfter, writtenOutcome};
+ghost use Rattle.listing.specs.Input.{ByteLimit};
 ghost use Rattle.listing.specs.Decimal.{DecimalTruth};
 ghost use Rattle.listing.specs.Listing.{listText, TextFits};
 
-// The most bytes that hold a batch.
-pub const MOST_BYTES: usize = 45248;
+// The words of a batch that has the most of all: two sections, each after its count, of charts and of records.
+const MOST_WORDS: usize = (1 + MOST_CHARTS * (HEAD_WORDS + (MOST_SETUP + MOST_LATER)))
+    + (1 + MOST_SAMPLES * record::WORDS);
 
-// The bytes of the longest text: a first line of at most 4, and 400 rows of at most 17.
-pub const MOST_TEXT: usize = 6804;
+// The most bytes that hold a batch.
+pub const MOST_BYTES: usize = WORD_BYTES * MOST_WORDS;
+
+// The digits of the greatest count of samples.
+const COUNT_DIGITS: usize = 3;
+
+// The longest line of the count, and of a row: the most digits of each field, and the byte after it.
+const COUNT_LINE: usize = COUNT_DIGITS + 1;
+
+const ROW_LINE: usize = (widths::NUMBER_DIGITS + 1)
+    + widths::VERDICTS * (widths::VERDICT_DIGITS + 1)
+    + (widths::FLAG_DIGITS + 1);
+
+// The bytes of the longest text.
+pub const MOST_TEXT: usize = COUNT_LINE + MOST_SAMPLES * ROW_LINE;
 
 // Writes the text of a batch, lent as bytes, to the start of `text`, and answers how long it is. Every text fits: that the
 // answer is within the array follows from the other promises, and is said for the caller who lends that part of it.
@@ -36,12 +58,14 @@ pub fn text_of(bytes: &[u8], text: &mut [u8; MOST_TEXT]) -> usize
 }
 
 // Writes the text of a batch, lent as bytes, to the start of any lent text. Where that is shorter, it is refused and left as
-// it was: the text is made apart, and copied once nothing can be refused any more.
+// it was: the text is made apart, and copied once nothing can be refused any more. The last three promises are that no text
+// is longer than the longest, that digits say their number, and that the limit on bytes is document 01's.
 pub fn list(bytes: &[u8], text: &mut [u8]) -> Written
     ensures answer { λ r. ⌜ writtenOutcome r ≡ lengthOf (fitting (length (now (text .entry))) (given (listText (now (bytes .entry))))) ⌝ }
     ensures lent { λ _. ⌜ now (text .exit) ≡ lentAfter (fitting (length (now (text .entry))) (given (listText (now (bytes .entry))))) (now (text .entry)) ⌝ }
     ensures fits { λ _. ⌜ TextFits ⌝ }
     ensures decimals { λ _. ⌜ DecimalTruth ⌝ }
+    ensures limit { λ _. ⌜ ByteLimit ⌝ }
 {
     let mut made = [0u8; MOST_TEXT];
     let length = text_of(bytes, &mut made);

@@ -1,21 +1,21 @@
-// Lines of text: each call writes at a place, or at the start, and answers the place after what it wrote.
+// Lines of text: each `put` writes at a place, or at the start, and answers the place after what it wrote.
 use crate::decimal;
 use batch::ROW_WORDS;
+use batch::widths::ROW_FIELDS;
 use refusal::Refusal;
 ghost use mathlib.Core.List.{_++_, _∷_, []};
 ghost use mathlib.Core.Path.{_≡_};
-ghost use Prim.Native.Nat.{_+_, _*_, _≤_};
+ghost use Prim.Native.Nat.{_+_, _*_, _≤_, _<_};
 ghost use lib.ListN.{length, getD};
 ghost use Rattle.refusal.specs.Numbers.{numberOf};
 ghost use Rattle.refusal.specs.Outcome.Outcome.{given};
 ghost use Rattle.refusal.specs.Lent.{lentAfter, placed};
-ghost use Rattle.batch.specs.Rows.{rowWords};
+ghost use Rattle.batch.specs.Rows.{rowWidths, rowWords, rowAt, rowFields};
 ghost use Rattle.listing.specs.Decimal.{decimal};
 ghost use Rattle.listing.specs.Listing.{ending as Listing·ending, rowLine, listingText, refusedText};
-ghost use Rattle.listing.specs.Steps.{rowAt};
 
-// The place of a row's last word in it.
-const LAST: usize = ROW_WORDS - 1;
+// The place of a row's last field.
+const LAST: usize = ROW_FIELDS - 1;
 
 // The text of a batch's answer, which stands at the start of `words`: the count on the first line, then a row a line.
 pub fn put_listing(text: &mut [u8], words: &[u32]) -> usize
@@ -25,7 +25,7 @@ pub fn put_listing(text: &mut [u8], words: &[u32]) -> usize
     ensures { λ _. ⌜ now (text .exit) ≡ lentAfter (given (listingText (now (words .entry)))) (now (text .entry)) ⌝ }
 {
     let count = words[0];
-    let mut next = put_field(text, 0, count, 0);
+    let mut next = put_field(text, 0, count as u64, 0);
     let mut from: usize = 1;
     let mut left = count;
     while 0 < left {
@@ -43,7 +43,7 @@ pub fn put_refusal(text: &mut [u8], why: Refusal) -> usize
     ensures { λ _. ⌜ now (text .exit) ≡ lentAfter (given (refusedText (numberOf why))) (now (text .entry)) ⌝ }
 {
     let next = bytes::copy(b"refused ", text);
-    put_field(text, next, why.number(), 0)
+    put_field(text, next, why.number() as u64, 0)
 }
 
 // The row that begins at a word.
@@ -55,15 +55,24 @@ fn put_row(text: &mut [u8], at: usize, words: &[u32], from: usize) -> usize
 {
     let mut next = at;
     let mut i: usize = 0;
-    while i < ROW_WORDS {
-        next = put_field(text, next, words[from + i], LAST - i);
+    while i < ROW_FIELDS {
+        next = put_field(text, next, field(words, from, i), LAST - i);
         i += 1;
     }
     next
 }
 
+// A field of the row that begins at a word.
+fn field(words: &[u32], from: usize, i: usize) -> u64
+    requires { ⌜ from + rowWords ≤ length (now words) ⌝ }
+    requires { ⌜ i < length rowWidths ⌝ }
+    ensures { λ r. ⌜ r ≡ getD (rowFields (rowAt (now (words .entry)) from)) i 0 ⌝ }
+{
+    words[from + i] as u64
+}
+
 // A field, and the byte that ends it, by how many fields come after it on its line.
-fn put_field(text: &mut [u8], at: usize, n: u32, after: usize) -> usize
+fn put_field(text: &mut [u8], at: usize, n: u64, after: usize) -> usize
     requires { ⌜ at + length (decimal n ++ (Listing·ending after ∷ [])) ≤ length (now text) ⌝ }
     ensures { λ r. ⌜ r ≡ at + length (decimal n ++ (Listing·ending after ∷ [])) ⌝ }
     ensures { λ _. ⌜ now (text .exit) ≡ placed (now (text .entry)) at (decimal n ++ (Listing·ending after ∷ [])) ⌝ }

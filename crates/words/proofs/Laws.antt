@@ -7,7 +7,7 @@ use lib.ListN.{length, take, drop}
 use lib.Seq.{take-all, take-at}
 use Rattle.refusal.specs.Lent.{placed}
 use Rattle.words.specs.Words.{wordsOf, wordBytes}
-use Rattle.words.specs.Room.{within, placedWithin}
+use Rattle.words.specs.Placing.{within, placedWithin}
 use Rattle.words.proofs.PackedLaws.{length-words}
 
 module _ (old : List ℕ) (at : ℕ) (words : List ℕ) (fits : at + length words ≤ length old) where

@@ -1,6 +1,6 @@
 -- The laws behind this crate's contracts, and those on words read from the front. Other crates cite the public ones.
 mod PackedLaws
-mod RoomLaws
+mod PlacingLaws
 pub mod SliceLaws
 pub mod ManyLaws
 pub mod TakenLaws

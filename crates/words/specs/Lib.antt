@@ -1,5 +1,8 @@
+-- To be believed, in this order: how bytes hold words (`Words`), words put into a slice (`Placing`), words read from the front, a
+-- part at a time (`FromFront`), and the words of parts that are given as values (`Sections`). `Steps` is the code's own form, which
+-- a reader of the promises can pass over.
 pub mod Words
-pub mod Room
-pub mod Steps
+pub mod Placing
 pub mod FromFront
 pub mod Sections
+pub mod Steps

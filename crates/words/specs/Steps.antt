@@ -1,4 +1,4 @@
--- What the steps of the code are stated by: what stands at a place of bytes.
+-- The code's own form, which a reader of the promises can pass over: what stands at a place of bytes.
 use mathlib.Core.List.{List}
 use Prim.Native.Nat.{ℕ, _+_, _*_}
 use lib.ListN.{getD}

@@ -6,7 +6,7 @@ ghost use mathlib.Core.Path.{_≡_};
 ghost use Prim.Native.Nat.{_-_, _≤_, min};
 ghost use lib.ListN.{length};
 ghost use Rattle.words.specs.Words.{wordsOf};
-ghost use Rattle.words.specs.Room.{within, placedWithin};
+ghost use Rattle.words.specs.Placing.{within, placedWithin};
 
 // The bytes of a word.
 pub const WORD_BYTES: usize = 4;

@@ -2,7 +2,7 @@
 use borrow.Author.Needs.{needs}
 use Rattle.listing.specs.Listing.{listText}
 use Rattle.listing.proofs.DecimalLaws.{decimal-truth}
-use Rattle.listing.proofs.TextLaws.{text-made}
+use Rattle.listing.proofs.TextLaws.{byte-limit, text-made}
 use Rattle.listing.proofs.list.Statement.{statement}
 use Rattle.listing.proofs.list.Tie as tie
 
@@ -12,7 +12,7 @@ returns c =
     let made = put .before .before .before .before in
     let text = listText (made .before .before .before .before .args .bytes .now) in
     let lent = rw (text-made text _ (made .text-of .ensures .0) (made .text-of .ensures .1 .0)) at (put .lend .ensures) in
-    (lent .0, (lent .1, (made .text-of .ensures .1 .1 .1, decimal-truth)))
+    (lent .0, (lent .1, (made .text-of .ensures .1 .1 .1, (decimal-truth, byte-limit))))
 
 pub list-spec : {M : Type 1} → statement M
 list-spec =

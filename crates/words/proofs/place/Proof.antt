@@ -2,7 +2,7 @@
 use borrow.Author.Needs.{needs}
 use mathlib.Core.Path.{refl}
 use Prim.Native.Nat.{_-_, _≤_}
-use Rattle.words.proofs.RoomLaws.{Put, put-none, put-more, put-all}
+use Rattle.words.proofs.PlacingLaws.{Put, put-none, put-more, put-all}
 use Rattle.words.proofs.place.Statement.{statement}
 use Rattle.words.proofs.place.Tie as tie
 

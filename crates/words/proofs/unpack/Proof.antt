@@ -5,7 +5,7 @@ use mathlib.Core.Path.{sym, _∙_}
 use Prim.Native.Nat.{_-_, _≤_}
 use Rattle.words.specs.Words.{wordsOf}
 use Rattle.words.proofs.PackedLaws.{length-words, word-at}
-use Rattle.words.proofs.RoomLaws.{Put, count, put-none, put-more, put-all}
+use Rattle.words.proofs.PlacingLaws.{Put, count, put-none, put-more, put-all}
 use Rattle.words.proofs.unpack.Statement.{statement}
 use Rattle.words.proofs.unpack.Tie as tie
 

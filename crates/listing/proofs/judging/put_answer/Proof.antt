@@ -2,7 +2,7 @@
 use borrow.Author.Needs.{needs}
 use native.Mathlib.Nat.{le-trans}
 use Rattle.listing.proofs.AnswerLaws.{rows-inside, text-inside, text-listed, text-refused}
-use Rattle.listing.proofs.RoomLaws.{refused-fits}
+use Rattle.listing.proofs.LengthLaws.{refused-fits}
 use Rattle.listing.proofs.judging.put_answer.Statement.{statement}
 use Rattle.listing.proofs.judging.put_answer.Tie as tie
 

@@ -5,7 +5,7 @@ use Prim.Native.Nat.{_/_, _≤_}
 use lib.ListN.{length, replicate}
 use Rattle.words.specs.Words.{wordBytes}
 use Rattle.words.proofs.Laws.{unpacked}
-use Rattle.listing.specs.Input.{mostBytes}
+use Rattle.listing.specs.Input.{mostWords}
 use Rattle.listing.proofs.judging.put_text.Statement.{statement}
 use Rattle.listing.proofs.judging.put_text.Tie as tie
 
@@ -18,8 +18,8 @@ returns c =
     let made = put .before .before .before .before .before in
     let start = made .before .before .before .before in
     let bytes = start .args .bytes .now in
-    let room : length bytes / wordBytes ≤ mostBytes / wordBytes = omega (arith, start .pre .1) in
-    let all = unpacked (replicate (mostBytes / wordBytes) 0) bytes room (made .unpack .ensures .0) (made .unpack .ensures .1 .0) in
+    let room : length bytes / wordBytes ≤ mostWords = omega (arith, start .pre .1) in
+    let all = unpacked (replicate mostWords 0) bytes room (made .unpack .ensures .0) (made .unpack .ensures .1 .0) in
     rw all at (put .put-judged .ensures)
 
 pub put-text-spec : {M : Type 1} → statement M

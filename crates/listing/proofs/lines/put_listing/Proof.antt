@@ -72,6 +72,7 @@ put-listing-spec =
     Inv-loop
     μ-loop
     (λ c. search needs)
+    (λ c. search needs)
     put-field-requires
     loop-holds
     put-row-requires

@@ -1,10 +1,9 @@
 -- After i turns the line of the fields after the first i is left to write.
 use borrow.Author.Needs.{needs}
 use Prim.Native.Nat.{_-_, _≤_}
-use lib.ListN.{drop}
-use Rattle.batch.specs.Rows.{rowWords}
+use lib.ListN.{length, drop}
+use Rattle.batch.specs.Rows.{rowWidths, rowAt, rowFields}
 use Rattle.listing.specs.Listing.{line, rowLine}
-use Rattle.listing.specs.Steps.{rowAt}
 use Rattle.listing.proofs.PartLaws.{Left, left-all, left-none, left-room, left-next}
 use Rattle.listing.proofs.LineLaws.{row-next, row-ends}
 use Rattle.listing.proofs.lines.put_row.Statement.{statement}
@@ -12,10 +11,10 @@ use Rattle.listing.proofs.lines.put_row.Tie as tie
 
 abbrev Inv-loop : tie.InvT-loop
 Inv-loop text₀ at words from next₀ i₀ text next i =
-    (i ≤ rowWords) × Left text₀ at (rowLine (rowAt words from)) text next (line (drop i (rowAt words from)))
+    (i ≤ length rowWidths) × Left text₀ at (rowLine (rowAt words from)) text next (line (drop i (rowFields (rowAt words from))))
 
 abbrev μ-loop : tie.MeasureT-loop
-μ-loop text₀ at words from next₀ i₀ text next i = rowWords - i
+μ-loop text₀ at words from next₀ i₀ text next i = length rowWidths - i
 
 loop-holds : tie.Need-loop-holds Inv-loop μ-loop
 unfolding rowLine
@@ -25,14 +24,15 @@ put-field-requires : tie.Need-put-field-requires Inv-loop μ-loop
 put-field-requires c κs =
     let at = c .before .before .before in
     let start = at .before .before .before in
-    left-room (at .loop .inv .1) (row-next (start .args .words .now) (start .args .from) (start .pre .0) (at .loop .i) (search needs))
+    left-room (at .loop .inv .1) (row-next (start .args .words .now) (start .args .from) (start .pre .0) (at .loop .i) (search needs) (c .field .ensures))
 
 loop-again : tie.Need-loop-again Inv-loop μ-loop
 loop-again c =
     let put = c .before .before in
-    let at = put .before .before .before .before in
+    let got = put .before in
+    let at = got .before .before .before in
     let start = at .before .before .before in
-    let next = row-next (start .args .words .now) (start .args .from) (start .pre .0) (at .loop .i) (search needs) in
+    let next = row-next (start .args .words .now) (start .args .from) (start .pre .0) (at .loop .i) (search needs) (got .field .ensures) in
     (search needs, left-next (at .loop .inv .1) next (put .put-field .ensures .1) (put .put-field .ensures .0))
 
 same-length : tie.Need-same-length Inv-loop μ-loop
@@ -51,9 +51,7 @@ put-row-spec =
     Inv-loop
     μ-loop
     loop-holds
-    (λ c. search needs)
-    (λ c. search needs)
-    (λ c. search needs)
+    (λ c κs. search needs)
     (λ c. search needs)
     put-field-requires
     (λ c. search needs)

@@ -6,7 +6,7 @@ use native.Mathlib.Omega.{arith}
 use lib.ListN.{length, getD, set, length-set, length-take}
 use lib.Seq.{paste, paste-zero, getD-take}
 use Rattle.refusal.proofs.PlaceLaws.{paste-more, paste-all}
-use Rattle.words.specs.Room.{within, placedWithin}
+use Rattle.words.specs.Placing.{within, placedWithin}
 
 -- the slice after so many turns, which was old before
 pub record Put (old : List ℕ) (at : ℕ) (words : List ℕ) (i : ℕ) (slice : List ℕ) : Type 0 where

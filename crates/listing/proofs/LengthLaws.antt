@@ -1,22 +1,26 @@
--- No text is longer than 6,804 bytes: a first line of at most 4, and 400 rows of at most 17; a refusal's line is shorter.
-use mathlib.Core.Bool.{Bool, true, false}
+-- No text is longer than the line of the count and a line for each of the most samples, by the widths of their fields; a refusal's
+-- line is shorter.
+use mathlib.Core.Bool.{Bool, true, false, _&&_}
 use mathlib.Core.Path.{_≡_, refl}
 use mathlib.Core.List.{List, [], _∷_}
 use Prim.Native.Nat.{ℕ, zero, suc, _+_, _*_, _≤_, _<_}
 use native.Mathlib.Omega.{arith}
-use lib.ListN.{length, getD, take, drop, length-append, length-take, length-drop}
-use lib.Seq.{drop-drop, getD-take}
+use borrow.Author.Tests.{leb-true}
+use lib.Dec.{leb}
+use lib.ListN.{length, getD, take, drop, length-append}
+use lib.Seq.{drop-drop}
 use Rattle.refusal.specs.declared.Refusal.the-variants as refusal
 use Rattle.refusal.specs.Numbers.{numberOf}
 use Rattle.refusal.specs.Outcome.{Outcome, demand}
 use Rattle.refusal.specs.Outcome.Outcome.{given, refused}
 use Rattle.refusal.proofs.Outcomes.{never}
+use Rattle.refusal.proofs.Testing.{both}
 use Rattle.words.specs.Words.{wordsOf}
-use Rattle.batch.specs.Rows.{rowWords, batchAnswer, SmallRow, Listed}
+use Rattle.batch.specs.Rows.{Width, rowWidths, rowWords, batchAnswer, rowAt, rowFields, FieldsFit, SmallRow, Listed}
 use Rattle.batch.proofs.Laws.{answer-listed}
 use Rattle.listing.specs.Input.{isInput}
 use Rattle.listing.specs.Decimal.{decimal}
-use Rattle.listing.specs.Listing.{ending, line, rowLine, rowLines, listingText, refusedWord, refusedText, textOf, listText, mostText, TextFits}
+use Rattle.listing.specs.Listing.{ending, line, rowLine, rowLines, listingText, refusedWord, refusedText, textOf, listText, countWidth, longestLine, mostText, TextFits}
 use Rattle.listing.proofs.DecimalLaws.{decimal-within, decimal-most}
 
 -- a field, and the byte that ends it
@@ -28,39 +32,40 @@ length-none : length (line []) ≡ 0
 unfolding line
 length-none = refl
 
--- fields of one digit
-one-digit-each : (s : List ℕ) → ((k : ℕ) → k < length s → getD s k 0 ≤ 9) → length (line s) ≤ 2 * length s
-one-digit-each [] each = omega (arith, length-none)
-one-digit-each (field ∷ rest) each =
-    let small : field ≤ 9 = each 0 (omega arith) in
-    omega (arith, length-field field rest, decimal-within 0 field (omega arith), one-digit-each rest (λ k h. each (suc k) (omega arith)))
+-- each field has a digit at least
+someDigits : List Width → Bool
+someDigits [] = true
+someDigits (width ∷ widths) = leb 1 (width .digits) && someDigits widths
+
+-- a line of fields, each within its width
+line-fits : (widths : List Width) (fields : List ℕ) → someDigits widths ≡ true → FieldsFit widths fields → length (line fields) ≤ longestLine widths
+unfolding someDigits
+line-fits [] [] some fit = omega (arith, length-none)
+line-fits (width ∷ widths) (field ∷ rest) some fit =
+    let each = both (leb 1 (width .digits)) (someDigits widths) some in
+    omega (
+      arith,
+      length-field field rest,
+      decimal-within (width .digits) field (leb-true 1 (width .digits) (each .0)) (fit .0),
+      line-fits widths rest (each .1) (fit .1),
+    )
 
 pub refused-fits : (n : ℕ) → length (refusedText n) ≤ mostText
 unfolding refusedText
 refused-fits n = omega (arith, length-append refusedWord (line (n ∷ [])), length-field n [], length-none, decimal-most n)
 
--- a row: a number of at most six digits, and fields of one digit
-abbrev mostRow : ℕ
-mostRow = 17
+-- a row, and rows one after another
+row-fits : (row : List ℕ) → SmallRow row → length (rowLine row) ≤ longestLine rowWidths
+unfolding rowLine someDigits
+row-fits row small = line-fits rowWidths (rowFields row) refl small
 
-row-fits : (w : List ℕ) → SmallRow w → rowWords ≤ length w → length (rowLine (take rowWords w)) ≤ mostRow
-unfolding rowLine
-row-fits [] small h = absurd (omega arith)
-row-fits (number ∷ rest) small h =
-    let others : List ℕ = take 5 rest in
-    let five : length others ≡ 5 = omega (arith, length-take 5 rest) in
-    let each : (k : ℕ) → k < length others → getD others k 0 ≤ 9 =
-    λ k l. rw (getD-take 5 rest k 0 (omega arith)) (small .fields (suc k) (omega arith) (omega arith))
-    in
-    omega (arith, length-field number others, decimal-within 5 number (omega (arith, small .number)), one-digit-each others each)
-
-rows-fit : (n : ℕ) (w : List ℕ) → ((i : ℕ) → i < n → SmallRow (drop (rowWords * i) w)) → rowWords * n ≤ length w → length (rowLines n w) ≤ mostRow * n
+rows-fit : (n : ℕ) (w : List ℕ) → ((i : ℕ) → i < n → SmallRow (rowAt w (rowWords * i))) → length (rowLines n w) ≤ longestLine rowWidths * n
 unfolding rowLines
-rows-fit zero w small h = omega arith
-rows-fit (suc n) w small h =
+rows-fit zero w small = omega arith
+rows-fit (suc n) w small =
     let first : List ℕ = rowLine (take rowWords w) in
     let others : List ℕ = drop rowWords w in
-    let each : (i : ℕ) → i < n → SmallRow (drop (rowWords * i) others) =
+    let each : (i : ℕ) → i < n → SmallRow (rowAt others (rowWords * i)) =
     λ i l.
     let e : rowWords + rowWords * i ≡ rowWords * suc i = omega arith in
     rw (drop-drop (rowWords * i) rowWords w, e) (small (suc i) (omega arith))
@@ -68,26 +73,24 @@ rows-fit (suc n) w small h =
     omega (
       arith,
       length-append first (rowLines n others),
-      row-fits w (small 0 (omega arith)) (omega arith),
-      rows-fit n others each (omega (arith, length-drop rowWords w)),
+      row-fits (take rowWords w) (small 0 (omega arith)),
+      rows-fit n others each,
     )
 
 pub listed-fits : (w : List ℕ) → Listed w → length (listingText w) ≤ mostText
-unfolding listingText
+unfolding listingText someDigits
 listed-fits w listed =
     let count : ℕ = getD w 0 0 in
     let first : List ℕ = line (count ∷ []) in
     let rows : List ℕ = rowLines count (drop 1 w) in
-    let each : (i : ℕ) → i < count → SmallRow (drop (rowWords * i) (drop 1 w)) =
+    let each : (i : ℕ) → i < count → SmallRow (rowAt (drop 1 w) (rowWords * i)) =
     λ i l. rw (drop-drop (rowWords * i) 1 w) (listed .rows i l)
     in
     omega (
       arith,
       length-append first rows,
-      length-field count [],
-      length-none,
-      decimal-within 2 count (omega (arith, listed .count)),
-      rows-fit count (drop 1 w) each (omega (arith, length-drop 1 w, listed .size)),
+      line-fits (countWidth ∷ []) (count ∷ []) refl (omega (arith, listed .count), tt),
+      rows-fit count (drop 1 w) each,
       listed .count,
     )
 
