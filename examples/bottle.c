@@ -19,11 +19,10 @@ struct analysed {
 struct run {
     uint32_t ph;
     uint32_t conductivity;
-    struct analysed readings[PELTQUARRY_READINGS - 1];
+    struct analysed readings[PELTQUARRY_DOC];
 };
 
 #define SAMPLE 7
-#define BULK_OPEN_FIELD 2
 
 /* NH4-N, Ca, Mg, Na, K, SO4-S, NO3-N, Cl, TN. A value under its limit becomes a reading below that limit. */
 static const struct run runs[] = {
@@ -50,18 +49,18 @@ static void done(uint32_t code, const char *call)
 
 static void make_record(const struct run *run, uint32_t words[PELTQUARRY_RECORD_WORDS])
 {
-    words[0] = SAMPLE;
-    words[1] = BULK_OPEN_FIELD;
-    words[2] = run->ph;
-    words[3] = run->conductivity;
-    words[4] = 0;
-    uint32_t *reading = words + PELTQUARRY_FIRST_READING;
-    for (size_t i = 0; i < PELTQUARRY_READINGS - 1; i++) {
-        done(peltquarry_reading(run->readings[i].value, run->readings[i].limit, reading, PELTQUARRY_READING_WORDS), "reading");
-        reading += PELTQUARRY_READING_WORDS;
+    words[PELTQUARRY_RECORD_NUMBER] = SAMPLE;
+    words[PELTQUARRY_RECORD_KIND] = PELTQUARRY_BULK_OPEN_FIELD;
+    words[PELTQUARRY_RECORD_PH] = run->ph;
+    words[PELTQUARRY_RECORD_CONDUCTIVITY] = run->conductivity;
+    words[PELTQUARRY_RECORD_ALKALINITY] = 0;
+    for (size_t place = PELTQUARRY_NH4_N; place < PELTQUARRY_DOC; place++) {
+        const struct analysed *analysed = &run->readings[place];
+        uint32_t *reading = words + PELTQUARRY_READING_MARK(place);
+        done(peltquarry_reading(analysed->value, analysed->limit, reading, PELTQUARRY_READING_WORDS), "reading");
     }
-    reading[0] = 0;
-    reading[1] = 0;
+    words[PELTQUARRY_READING_MARK(PELTQUARRY_DOC)] = PELTQUARRY_MARK_MISSING;
+    words[PELTQUARRY_READING_BITS(PELTQUARRY_DOC)] = 0;
 }
 
 int main(void)

@@ -1,14 +1,13 @@
 /*
  * Peltquarry, the water analysis judge, for programs in C.
  *
- * A record, a docket, a batch and an answer are words of 32 bits, lent as a pointer and a number of words. What the words of a
- * record, of a reading and of a batch are stands in document 01, 'A record', 'A reading' and 'A batch'; what those of a docket are
- * stands below.
+ * A record, a docket, a batch and an answer are words of 32 bits, lent as a pointer and a number of words. Where each word stands
+ * and how many there are is named below; what they mean stands in document 01, 'A record', 'A reading' and 'A batch'.
  *
  * Every call returns 0 where it did what was asked, else the number of a refusal:
  *
- *    1  the record is not 25 words long
- *    2  the sample number is not from 1 to 999,999
+ *    1  the record is not PELTQUARRY_RECORD_WORDS words long
+ *    2  the sample number is not from 1 to PELTQUARRY_MOST_NUMBER
  *    3  there is no such kind
  *    4  the pH is out of range
  *    5  the measured conductivity is out of range
@@ -39,22 +38,97 @@
 extern "C" {
 #endif
 
-/* How many words each has. */
-#define PELTQUARRY_RECORD_WORDS 25
-#define PELTQUARRY_READING_WORDS 2
-#define PELTQUARRY_VERDICT_WORDS 4
-#define PELTQUARRY_DOCKET_WORDS 27
-#define PELTQUARRY_ROW_WORDS 6
-
-/* The most samples of a batch, the words of its longest answer, the most bytes of a listing's input and of its text. */
-#define PELTQUARRY_MOST_SAMPLES 400
-#define PELTQUARRY_MOST_ANSWER 2401
-#define PELTQUARRY_MOST_BYTES 45248
-#define PELTQUARRY_MOST_TEXT 6804
-
-/* The first reading of a record, and how many there are: NH4-N, Ca, Mg, Na, K, SO4-S, NO3-N, Cl, TN, DOC. */
+/*
+ * The words of a record: its fields, then its readings. pH is in hundredths, conductivity in tenths of a µS/cm, alkalinity in
+ * tenths of a µeq/L.
+ */
+#define PELTQUARRY_RECORD_NUMBER 0
+#define PELTQUARRY_RECORD_KIND 1
+#define PELTQUARRY_RECORD_PH 2
+#define PELTQUARRY_RECORD_CONDUCTIVITY 3
+#define PELTQUARRY_RECORD_ALKALINITY 4
 #define PELTQUARRY_FIRST_READING 5
 #define PELTQUARRY_READINGS 10
+#define PELTQUARRY_READING_WORDS 2
+#define PELTQUARRY_READINGS_END (PELTQUARRY_FIRST_READING + PELTQUARRY_READINGS * PELTQUARRY_READING_WORDS)
+#define PELTQUARRY_RECORD_WORDS PELTQUARRY_READINGS_END
+
+/* Kinds of sample. */
+#define PELTQUARRY_WET_ONLY 1
+#define PELTQUARRY_BULK_OPEN_FIELD 2
+#define PELTQUARRY_THROUGHFALL 3
+#define PELTQUARRY_STEMFLOW 4
+#define PELTQUARRY_RUNOFF 5
+#define PELTQUARRY_SOIL_WATER 6
+
+/* The greatest sample number, and how many digits it has. */
+#define PELTQUARRY_MOST_NUMBER 999999
+#define PELTQUARRY_NUMBER_DIGITS 6
+
+/* The places of the readings; the words of a record that have the mark and the bits of each; and the marks. */
+#define PELTQUARRY_NH4_N 0
+#define PELTQUARRY_CA 1
+#define PELTQUARRY_MG 2
+#define PELTQUARRY_NA 3
+#define PELTQUARRY_K 4
+#define PELTQUARRY_SO4_S 5
+#define PELTQUARRY_NO3_N 6
+#define PELTQUARRY_CL 7
+#define PELTQUARRY_TN 8
+#define PELTQUARRY_DOC 9
+#define PELTQUARRY_READING_MARK(place) (PELTQUARRY_FIRST_READING + (place) * PELTQUARRY_READING_WORDS)
+#define PELTQUARRY_READING_BITS(place) (PELTQUARRY_READING_MARK(place) + 1)
+#define PELTQUARRY_MARK_MISSING 0
+#define PELTQUARRY_MARK_MEASURED 1
+#define PELTQUARRY_MARK_BELOW 2
+
+/* The words of a docket: where it stands, how many analyses it took, and from here on the words of the last it took. */
+#define PELTQUARRY_DOCKET_STATE 0
+#define PELTQUARRY_DOCKET_COUNT 1
+#define PELTQUARRY_DOCKET_RECORD 2
+#define PELTQUARRY_DOCKET_WORDS (PELTQUARRY_DOCKET_RECORD + PELTQUARRY_RECORD_WORDS)
+
+/* How many verdicts there are: ion balance, conductivity, sodium/chloride ratio, nitrogen. */
+#define PELTQUARRY_VERDICT_WORDS 4
+
+/* A chart: how many setup values and later values it may have, and the greatest value, in µg/L. */
+#define PELTQUARRY_LEAST_SETUP 10
+#define PELTQUARRY_MOST_SETUP 64
+#define PELTQUARRY_MOST_LATER 64
+#define PELTQUARRY_MOST_VALUE 200000
+
+/*
+ * The words of a batch: the number of charts and the charts, then the number of samples and their records. A chart has its
+ * element, which is that of a reading, its counts of setup and of later values, and these values.
+ */
+#define PELTQUARRY_ELEMENT(place) ((place) + 1)
+#define PELTQUARRY_CHART_ELEMENT 0
+#define PELTQUARRY_CHART_SETUP 1
+#define PELTQUARRY_CHART_LATER 2
+#define PELTQUARRY_CHART_HEAD 3
+#define PELTQUARRY_MOST_CHARTS 10
+#define PELTQUARRY_MOST_CHART_WORDS (PELTQUARRY_CHART_HEAD + PELTQUARRY_MOST_SETUP + PELTQUARRY_MOST_LATER)
+#define PELTQUARRY_MOST_SAMPLES 400
+#define PELTQUARRY_MOST_BATCH \
+    (1 + PELTQUARRY_MOST_CHARTS * PELTQUARRY_MOST_CHART_WORDS + 1 + PELTQUARRY_MOST_SAMPLES * PELTQUARRY_RECORD_WORDS)
+
+/*
+ * The words of its answer: the number of samples, then a row for each with the sample's number, its verdicts, and 1 if some chart
+ * whose element is not missing in the sample has a signal at its last later value, else 0.
+ */
+#define PELTQUARRY_ROW_NUMBER 0
+#define PELTQUARRY_ROW_VERDICTS 1
+#define PELTQUARRY_ROW_FLAG (PELTQUARRY_ROW_VERDICTS + PELTQUARRY_VERDICT_WORDS)
+#define PELTQUARRY_ROW_WORDS (PELTQUARRY_ROW_FLAG + 1)
+#define PELTQUARRY_MOST_ANSWER (1 + PELTQUARRY_MOST_SAMPLES * PELTQUARRY_ROW_WORDS)
+
+/*
+ * The most bytes of a listing's input, and of its text: a line of three digits, then a line for each row, which has the number's
+ * digits, a space and a digit for each other word, and a newline.
+ */
+#define PELTQUARRY_MOST_BYTES (4 * PELTQUARRY_MOST_BATCH)
+#define PELTQUARRY_MOST_LINE (PELTQUARRY_NUMBER_DIGITS + 2 * (PELTQUARRY_ROW_WORDS - 1) + 1)
+#define PELTQUARRY_MOST_TEXT (3 + 1 + PELTQUARRY_MOST_SAMPLES * PELTQUARRY_MOST_LINE)
 
 /* Verdicts. */
 #define PELTQUARRY_NOT_APPLICABLE 0
@@ -62,11 +136,6 @@ extern "C" {
 #define PELTQUARRY_OUTSIDE 2
 #define PELTQUARRY_UNDECIDED 3
 #define PELTQUARRY_MISSING 4
-
-/* The words of a docket: where it stands, how many analyses it took, and from here on the words of the last it took. */
-#define PELTQUARRY_DOCKET_STATE 0
-#define PELTQUARRY_DOCKET_COUNT 1
-#define PELTQUARRY_DOCKET_RECORD 2
 
 /* Where a docket stands. */
 #define PELTQUARRY_OPEN 0
@@ -91,43 +160,44 @@ extern "C" {
 #define PELTQUARRY_REFUSED_OUTPUT_LENGTH 13
 
 /*
- * Judges a record. Into verdicts: 4 words, the verdicts on ion balance, conductivity, sodium/chloride ratio and nitrogen.
+ * Judges a record. Into verdicts: PELTQUARRY_VERDICT_WORDS words, the verdicts on ion balance, conductivity, sodium/chloride ratio
+ * and nitrogen.
  * Refused 1 to 7 by the record, then 13.
  */
 uint32_t peltquarry_judge(const uint32_t *words, size_t words_len, uint32_t *verdicts, size_t verdicts_len);
 
 /*
  * Makes a reading from the analyser's value and its quantification limit, both in mg/L: below its limit where the value is
- * under it, else measured. Into words: 2 words, the reading's mark and the bits of its float, as a record has them.
+ * under it, else measured. Into words: PELTQUARRY_READING_WORDS words, its mark and the bits of its float, as a record has them.
  * Refused 7 where the value is not from 0 to 200 or the limit not from 2^-10 to 200 (minus zero, an infinity and a NaN are
- * neither), then 13. A missing reading needs no call: its two words are 0.
+ * neither), then 13. A missing reading needs no call: its words are 0.
  */
 uint32_t peltquarry_reading(float value, float limit, uint32_t *words, size_t words_len);
 
 /*
- * A fresh docket. Into docket: 27 words, open with a count of 0; the 25 of its record are left open.
+ * A fresh docket. Into docket: PELTQUARRY_DOCKET_WORDS words, open with a count of 0; those of its record are left open.
  * Refused 13.
  */
 uint32_t peltquarry_fresh(uint32_t *docket, size_t docket_len);
 
 /*
- * Offers a record to a docket, which is read from docket's first 27 words. Taken: those words become the docket after the
- * offer, its state, count and last record. Refused 1 to 7 by the record; then 13, since fewer than 27 words hold no docket that
- * could be tested further; then 11, also for a state above 3; then 12.
+ * Offers a record to a docket, which is read from docket's first PELTQUARRY_DOCKET_WORDS words. Taken: those words become the
+ * docket after the offer, its state, count and last record. Refused 1 to 7 by the record; then 13, since fewer words hold no
+ * docket that could be tested further; then 11, also for a state that is none of the four; then 12.
  */
 uint32_t peltquarry_offer(uint32_t *docket, size_t docket_len, const uint32_t *words, size_t words_len);
 
 /*
- * Reads a control chart of 10 to 64 setup values and 0 to 64 later ones, each from 0 to 200,000 µg/L. Into signals: a word for
- * each later value, the sum of the numbers of the rules that it meets (1, 2, 4 and 8).
+ * Reads a control chart of PELTQUARRY_LEAST_SETUP to PELTQUARRY_MOST_SETUP setup values and 0 to PELTQUARRY_MOST_LATER later ones,
+ * each from 0 to PELTQUARRY_MOST_VALUE. Into signals: a word for each later value, the sum of the numbers of the rules that it
+ * meets (1, 2, 4 and 8).
  * Refused 9 by the counts, 10 by the values, then 13.
  */
 uint32_t peltquarry_signals(const uint32_t *setup, size_t setup_len, const uint32_t *later, size_t later_len, uint32_t *signals,
                             size_t signals_len);
 
 /*
- * Judges a batch. Into answer: the number of samples, then 6 words for each: its number, its four verdicts, and 1 if some chart
- * whose element is not missing in the sample has a signal at its last later value, else 0.
+ * Judges a batch. Into answer: the number of samples, then PELTQUARRY_ROW_WORDS words for each.
  * Refused by the first thing that is wrong in it, 2 to 10, then 13.
  */
 uint32_t peltquarry_batch(const uint32_t *words, size_t words_len, uint32_t *answer, size_t answer_len);

@@ -1,7 +1,11 @@
 //! Inputs that both sides get: records as an analyser makes them, bottles of
 //! three runs, control charts, batches.
 
-use crate::plain::record::WORDS;
+use crate::numbers::{
+    ALKALINITY, BITS, CHART_ELEMENT, CHART_HEAD, CHART_LATER, CHART_SETUP, CONDUCTIVITY,
+    FIRST_READING, IONS, KIND, KINDS, MARK, MOST_NUMBER, NUMBER, PH, READINGS_END, READING_WORDS,
+    RECORD_WORDS,
+};
 
 /// A small generator (xorshift); the same numbers in every run.
 pub struct Random(u64);
@@ -26,32 +30,33 @@ impl Random {
 }
 
 /// A record: one reading in twenty is missing, one in seven below its limit.
-pub fn a_record(random: &mut Random) -> [u32; WORDS] {
-    let mut words = [0; WORDS];
-    words[0] = 1 + random.below(999_999);
-    words[1] = 1 + random.below(6);
-    words[2] = 350 + random.below(450);
-    words[3] = 30 + random.below(600);
-    words[4] = random.below(1500);
-    for reading in words[5..].chunks_exact_mut(2) {
-        match random.below(140) {
-            0..=6 => {}
-            7..=26 => reading.copy_from_slice(&[2, 0.05f32.to_bits()]),
-            _ => reading.copy_from_slice(&[1, random.milligrams(4.0).to_bits()]),
-        }
+pub fn a_record(random: &mut Random) -> [u32; RECORD_WORDS] {
+    let mut words = [0; RECORD_WORDS];
+    words[NUMBER] = 1 + random.below(MOST_NUMBER);
+    words[KIND] = 1 + random.below(KINDS);
+    words[PH] = 350 + random.below(450);
+    words[CONDUCTIVITY] = 30 + random.below(600);
+    words[ALKALINITY] = random.below(1500);
+    for reading in words[FIRST_READING..READINGS_END].chunks_exact_mut(READING_WORDS) {
+        (reading[MARK], reading[BITS]) = match random.below(140) {
+            0..=6 => (0, 0),
+            7..=26 => (2, 0.05f32.to_bits()),
+            _ => (1, random.milligrams(4.0).to_bits()),
+        };
     }
     words
 }
 
 /// Three runs of one bottle, whose readings move a little.
-pub fn a_bottle(random: &mut Random) -> [[u32; WORDS]; 3] {
+pub fn a_bottle(random: &mut Random) -> [[u32; RECORD_WORDS]; 3] {
     let first = a_record(random);
     let mut runs = [first; 3];
     for run in &mut runs[1..] {
-        run[3] += random.below(8);
-        let reading = 5 + 2 * random.below(8) as usize;
-        if run[reading] == 1 {
-            run[reading + 1] = random.milligrams(4.0).to_bits();
+        run[CONDUCTIVITY] += random.below(8);
+        let ion = random.below(IONS as u32) as usize;
+        let reading = &mut run[FIRST_READING + READING_WORDS * ion..];
+        if reading[MARK] == 1 {
+            reading[BITS] = random.milligrams(4.0).to_bits();
         }
     }
     runs
@@ -74,7 +79,11 @@ pub fn a_batch(random: &mut Random, samples: usize) -> Vec<u32> {
     let mut words = vec![5];
     for element in 1..=5 {
         let (setup, later) = a_chart(random, 30, 30);
-        words.extend([element, 30, 30]);
+        let mut head = [0; CHART_HEAD];
+        head[CHART_ELEMENT] = element;
+        head[CHART_SETUP] = setup.len() as u32;
+        head[CHART_LATER] = later.len() as u32;
+        words.extend(head);
         words.extend(setup);
         words.extend(later);
     }

@@ -6,6 +6,7 @@
 //! counts instructions.
 
 mod inputs;
+mod numbers;
 mod plain;
 mod proved;
 mod rows;

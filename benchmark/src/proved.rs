@@ -17,8 +17,6 @@ mod c {
     }
 }
 
-pub const DOCKET_WORDS: usize = 27;
-
 pub fn judge(words: &[u32], verdicts: &mut [u32]) -> u32 {
     unsafe {
         c::peltquarry_judge(

@@ -3,14 +3,17 @@
 //! compared.
 
 use crate::inputs::{a_batch, a_bottle, a_chart, a_record, Random};
-use crate::plain::{batch, chart, checks, docket::Docket, record::WORDS};
-use crate::proved::{self, DOCKET_WORDS};
+use crate::numbers::{
+    CHECKS, DOCKET_COUNT, DOCKET_STATE, DOCKET_WORDS, LEAST_PH, MOST_ANSWER, MOST_LATER,
+    MOST_SAMPLES, MOST_SETUP, RECORD_WORDS,
+};
+use crate::plain::{batch, chart, checks, docket::Docket, Floors};
+use crate::proved;
 use reference::hydrogen::Ph;
 
 const RECORDS: usize = 2000;
 const BOTTLES: usize = 700;
 const CHARTS: usize = 300;
-const MOST_ANSWER: usize = 2401;
 
 pub struct Row {
     pub key: &'static str,
@@ -21,24 +24,24 @@ pub struct Row {
     pub plain: Box<dyn FnMut() -> u64>,
 }
 
-fn floors() -> [u64; 801] {
-    std::array::from_fn(|i| Ph::new(200 + i as u32).map_or(0, Ph::floor))
+fn floors() -> Floors {
+    std::array::from_fn(|i| Ph::new(LEAST_PH + i as u32).map_or(0, Ph::floor))
 }
 
 fn sum(words: &[u32]) -> u64 {
     words.iter().map(|&w| u64::from(w)).sum()
 }
 
-fn judging(floors: [u64; 801]) -> Row {
+fn judging(floors: Floors) -> Row {
     let mut random = Random::new(1);
-    let records: Vec<[u32; WORDS]> = (0..RECORDS).map(|_| a_record(&mut random)).collect();
+    let records: Vec<[u32; RECORD_WORDS]> = (0..RECORDS).map(|_| a_record(&mut random)).collect();
     let same = records.clone();
     Row {
         key: "judge",
         name: "a record judged".into(),
         pieces: RECORDS,
         proved: Box::new(move || {
-            let mut verdicts = [0; 4];
+            let mut verdicts = [0; CHECKS];
             let judged = records.iter().map(|r| {
                 proved::judge(r, &mut verdicts);
                 sum(&verdicts)
@@ -54,7 +57,7 @@ fn judging(floors: [u64; 801]) -> Row {
     }
 }
 
-fn following(floors: [u64; 801]) -> Row {
+fn following(floors: Floors) -> Row {
     let mut random = Random::new(2);
     let bottles: Vec<_> = (0..BOTTLES).map(|_| a_bottle(&mut random)).collect();
     let same = bottles.clone();
@@ -70,7 +73,7 @@ fn following(floors: [u64; 801]) -> Row {
                 for words in runs {
                     proved::offer(&mut docket, words);
                 }
-                all += u64::from(docket[0] + docket[1]);
+                all += u64::from(docket[DOCKET_STATE] + docket[DOCKET_COUNT]);
             }
             all
         }),
@@ -99,7 +102,7 @@ fn charting(key: &'static str, setup: usize, later: usize) -> Row {
         name: format!("a later value of a chart {setup} + {later}"),
         pieces: CHARTS * later,
         proved: Box::new(move || {
-            let mut out = [0; 64];
+            let mut out = [0; MOST_LATER];
             let read = charts.iter().map(|(before, after)| {
                 proved::signals(before, after, &mut out);
                 sum(&out[..after.len()])
@@ -107,7 +110,7 @@ fn charting(key: &'static str, setup: usize, later: usize) -> Row {
             read.sum()
         }),
         plain: Box::new(move || {
-            let mut out = [0; 64];
+            let mut out = [0; MOST_LATER];
             let read = same.iter().map(|(before, after)| {
                 let n = chart::signals(before, after, &mut out).unwrap_or(0);
                 sum(&out[..n])
@@ -117,11 +120,11 @@ fn charting(key: &'static str, setup: usize, later: usize) -> Row {
     }
 }
 
-fn batching(key: &'static str, samples: usize, floors: [u64; 801]) -> Row {
+fn batching(key: &'static str, samples: usize, floors: Floors) -> Row {
     let mut random = Random::new(4);
     let words = a_batch(&mut random, samples);
     let same = words.clone();
-    let times = 800 / samples;
+    let times = 2 * MOST_SAMPLES / samples;
     Row {
         key,
         name: format!("a sample of a batch of {samples}"),
@@ -149,11 +152,11 @@ pub fn all() -> Vec<Row> {
     let mut rows = vec![
         judging(floors),
         following(floors),
-        charting("chart30", 30, 64),
-        charting("chart64", 64, 64),
+        charting("chart30", 30, MOST_LATER),
+        charting("chart64", MOST_SETUP, MOST_LATER),
         batching("batch4", 4, floors),
         batching("batch40", 40, floors),
-        batching("batch400", 400, floors),
+        batching("batch400", MOST_SAMPLES, floors),
     ];
     for row in &mut rows {
         assert_eq!(

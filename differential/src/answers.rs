@@ -1,14 +1,14 @@
 //! The answers of the other implementation, in the words of the C interface.
 
+use crate::numbers::{
+    CHECKS, DOCKET_COUNT, DOCKET_RECORD, DOCKET_STATE, DOCKET_WORDS, READING_WORDS, RECORD_WORDS,
+};
 use reference::checks::{verdicts, Verdict};
 use reference::docket::{self, State};
 use reference::readings::Reading;
-use reference::record::{Record, LENGTH};
+use reference::record::Record;
 use reference::refusals::{Refusal, DOCKET, OUTPUT};
 use reference::{batch, charts, listing};
-
-/// A docket's words: state, count, last record.
-pub const DOCKET_WORDS: usize = 2 + LENGTH;
 
 /// The states in the order of their numbers.
 const STATES: [State; 4] = [
@@ -18,11 +18,11 @@ const STATES: [State; 4] = [
     State::Unsettled,
 ];
 
-pub fn judge(words: &[u32]) -> Result<[u32; 4], Refusal> {
+pub fn judge(words: &[u32]) -> Result<[u32; CHECKS], Refusal> {
     Record::read(words).map(|record| verdicts(&record).map(Verdict::number))
 }
 
-pub fn reading(value_bits: u32, limit_bits: u32) -> Result<[u32; 2], Refusal> {
+pub fn reading(value_bits: u32, limit_bits: u32) -> Result<[u32; READING_WORDS], Refusal> {
     Reading::from_analyser(value_bits, limit_bits).map(|reading| reading.words().into())
 }
 
@@ -32,17 +32,19 @@ pub fn reading(value_bits: u32, limit_bits: u32) -> Result<[u32; 2], Refusal> {
 pub fn offer(docket: &[u32], words: &[u32]) -> Result<[u32; DOCKET_WORDS], Refusal> {
     Record::read(words)?;
     let docket = docket.first_chunk::<DOCKET_WORDS>().ok_or(OUTPUT)?;
-    let state = *STATES.get(docket[0] as usize).ok_or(DOCKET)?;
-    let mut held = [0; LENGTH];
-    held.copy_from_slice(&docket[2..]);
-    let (state, count, held) = docket::offer(state, docket[1], &held, words)?;
+    let state = *STATES.get(docket[DOCKET_STATE] as usize).ok_or(DOCKET)?;
+    let mut held = [0; RECORD_WORDS];
+    held.copy_from_slice(&docket[DOCKET_RECORD..]);
+    let (state, count, held) = docket::offer(state, docket[DOCKET_COUNT], &held, words)?;
     Ok(docket_words(state.number(), count, &held))
 }
 
-pub fn docket_words(state: u32, count: u32, held: &[u32; LENGTH]) -> [u32; DOCKET_WORDS] {
+/// A docket's words: state, count, last record.
+pub fn docket_words(state: u32, count: u32, held: &[u32; RECORD_WORDS]) -> [u32; DOCKET_WORDS] {
     let mut words = [0; DOCKET_WORDS];
-    words[..2].copy_from_slice(&[state, count]);
-    words[2..].copy_from_slice(held);
+    words[DOCKET_STATE] = state;
+    words[DOCKET_COUNT] = count;
+    words[DOCKET_RECORD..].copy_from_slice(held);
     words
 }
 

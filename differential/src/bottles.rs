@@ -1,21 +1,18 @@
 //! Bottles drawn at random whose records their own tests let pass.
 
-use crate::floats::{any_reading, scattered_reading, MOST_AMOUNT};
+use crate::floats::{any_reading, scattered_reading};
+use crate::numbers::{
+    AMMONIUM, CONDUCTIVITY_TENTH, IONS, LEAST_PH, MOST_ALKALINITY, MOST_AMOUNT, MOST_CONDUCTIVITY,
+    MOST_NUMBER, MOST_PH, NITRATE, ORGANIC_CARBON, READINGS, SODIUM, SOIL_WATER, TOTAL_NITROGEN,
+    WET_ONLY,
+};
 use crate::random::Draw;
 use reference::cases::bottle::Bottle;
 use reference::cases::generator::Generator;
 use reference::hydrogen::Ph;
 use reference::ions::{
-    alkalinity_charge, charge, ALKALINITY_CONDUCTANCE, AMMONIUM, ANIONS, CATIONS,
-    HYDROGEN_CONDUCTANCE, IONS, NITRATE, ORGANIC_CARBON, SODIUM, TABLE, TOTAL_NITROGEN,
+    alkalinity_charge, charge, ALKALINITY_CONDUCTANCE, ANIONS, CATIONS, HYDROGEN_CONDUCTANCE, TABLE,
 };
-use reference::record::READINGS;
-
-/// The greatest values of the words 3 and 4.
-const MOST_CONDUCTIVITY: u32 = 100_000;
-const MOST_ALKALINITY: u32 = 200_000;
-/// A tenth of a µS/cm in units of 10^−13 µS/cm.
-const TENTH: i128 = 1_000_000_000_000;
 
 /// Now as from the field, now anything a record may hold.
 pub fn any_bottle(generator: &mut Generator) -> Bottle {
@@ -29,9 +26,9 @@ pub fn any_bottle(generator: &mut Generator) -> Bottle {
 /// Any record that isn't refused, hardly ever one that makes sense.
 pub fn scattered(generator: &mut Generator) -> Bottle {
     let mut bottle = Bottle::printed()
-        .number(1 + generator.of_any_size(999_998))
-        .kind(generator.between(1, 6))
-        .ph(generator.between(200, 1_000))
+        .number(1 + generator.of_any_size(MOST_NUMBER - 1))
+        .kind(generator.between(WET_ONLY, SOIL_WATER))
+        .ph(generator.between(LEAST_PH, MOST_PH))
         .conductivity(1 + generator.of_any_size(MOST_CONDUCTIVITY - 1))
         .alkalinity(generator.of_any_size(MOST_ALKALINITY));
     for place in 0..READINGS {
@@ -48,8 +45,8 @@ pub fn everyday(generator: &mut Generator) -> Bottle {
     draft.balance(generator);
     let conductivity = draft.conductivity(generator);
     let mut bottle = Bottle::printed()
-        .number(generator.between(1, 999_999))
-        .kind(generator.between(1, 6))
+        .number(generator.between(1, MOST_NUMBER))
+        .kind(generator.between(WET_ONLY, SOIL_WATER))
         .ph(draft.ph)
         .conductivity(conductivity)
         .alkalinity(draft.alkalinity);
@@ -90,8 +87,8 @@ impl Draft {
         amounts[TOTAL_NITROGEN] = total.min(MOST_AMOUNT);
         amounts[ORGANIC_CARBON] = generator.below(9_000);
         let ph = match generator.below(3) {
-            0 => 100 * generator.between(2, 10),
-            1 => generator.between(200, 1_000),
+            0 => 100 * generator.between(LEAST_PH / 100, MOST_PH / 100),
+            1 => generator.between(LEAST_PH, MOST_PH),
             _ => generator.between(420, 720),
         };
         Draft {
@@ -129,7 +126,7 @@ impl Draft {
         let ions: i128 = (0..IONS).map(part).sum();
         let alkalinity = ALKALINITY_CONDUCTANCE * alkalinity_charge(self.alkalinity);
         let calculated = HYDROGEN_CONDUCTANCE * self.hydrogen() + alkalinity + ions;
-        let tenths = (calculated / TENTH).min(70_000) as u32;
+        let tenths = (calculated / CONDUCTIVITY_TENTH).min(70_000) as u32;
         generator.near(tenths, 35).clamp(1, MOST_CONDUCTIVITY)
     }
 }
@@ -138,6 +135,7 @@ impl Draft {
 mod tests {
     use super::*;
     use crate::answers::judge;
+    use crate::numbers::CHECKS;
 
     #[test]
     fn every_bottle_is_a_record() {
@@ -150,7 +148,7 @@ mod tests {
     #[test]
     fn every_verdict_but_undecided_is_common() {
         let mut generator = Generator::new(2);
-        let mut times = [[0; 5]; 4];
+        let mut times = [[0; 5]; CHECKS];
         for _ in 0..5_000 {
             let verdicts = judge(everyday(&mut generator).words());
             for (check, verdict) in verdicts.into_iter().flatten().enumerate() {

@@ -1,8 +1,6 @@
 //! Lent slices: parts of a larger buffer with canaries before and after them.
 
-/// How many canaries stand on each side: more than any answer could run over
-/// by one row or by one record.
-const MARGIN: usize = 32;
+use crate::numbers::MARGIN;
 
 /// A word or a byte that can be lent.
 pub trait Cell: Copy + PartialEq {

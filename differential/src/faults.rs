@@ -1,16 +1,22 @@
 //! Faults put into the stand-in: each must be found by the part that it names.
 
-use crate::answers::{self, DOCKET_WORDS};
+use crate::answers;
 use crate::library::Library;
+use crate::numbers::{
+    BALANCE_CHECK, BITS, BULK, CARBON_LINE, CHART_COUNT, CHART_ELEMENT, CHECKS, CONDUCTIVITY_CHECK,
+    COUNT_WORDS, DOCKET_COUNT, DOCKET_RECORD, DOCKET_STATE, DOCKET_WORDS, FIRST_CHART,
+    FIRST_READING, IONS, MOST_BYTES, MOST_ELEMENT, ORGANIC_CARBON, READINGS_END, READING_WORDS,
+    ROW_FLAG, ROW_WORDS, RUNOFF, WORD_BYTES,
+};
 use crate::stand_in::{write, StandIn};
 use reference::cases::floats::ties;
 use reference::charts::SEVEN_ON_ONE_SIDE;
 use reference::checks::{ion_balance, Conductivity, Inequality, IonBalance};
-use reference::ions::{IONS, ORGANIC_CARBON};
-use reference::record::{Record, FIRST_READING, RUNOFF};
+use reference::record::Record;
 use reference::refusals::{BATCH_LENGTH, DOCKET};
 use std::cmp::Ordering;
 use std::collections::HashSet;
+use std::ops::Range;
 use std::sync::OnceLock;
 
 #[derive(Clone, Copy, Debug, PartialEq, Eq)]
@@ -61,6 +67,9 @@ pub const FAULTS: [(Fault, &str); 19] = [
     (LengthToldWhenRefused, "batches"),
 ];
 
+/// The words of a docket that hold its record.
+const HELD: Range<usize> = DOCKET_RECORD..DOCKET_WORDS;
+
 /// The stand-in with one fault.
 pub struct Faulty(pub Fault);
 
@@ -72,7 +81,9 @@ impl Library for Faulty {
         let answer = StandIn.judge(words, verdicts);
         match (self.0, Record::read(words)) {
             (WritesWhenRefused, _) if answer != 0 => verdicts.fill(0),
-            (WritesBehindTheAnswer, _) if answer == 0 && verdicts.len() > 4 => verdicts[4] = 0,
+            (WritesBehindTheAnswer, _) if answer == 0 && verdicts.len() > CHECKS => {
+                verdicts[CHECKS] = 0;
+            }
             (fault, Ok(record)) if answer == 0 => distort(fault, &record, verdicts),
             _ => {}
         }
@@ -100,11 +111,11 @@ impl Library for Faulty {
         let answer = StandIn.offer(docket, words);
         match self.0 {
             ExactTenthDisagrees if answer == 0 => disagree_at_a_tenth(&before, docket),
-            HoldsTheFirst if answer == 0 && before[1] > 0 => {
-                docket[2..DOCKET_WORDS].copy_from_slice(&before[2..DOCKET_WORDS]);
+            HoldsTheFirst if answer == 0 && before[DOCKET_COUNT] > 0 => {
+                docket[HELD].copy_from_slice(&before[HELD]);
             }
-            ForeignStateIsOpen if answer == DOCKET && docket[0] > 3 => {
-                docket[0] = 0;
+            ForeignStateIsOpen if answer == DOCKET && docket[DOCKET_STATE] > 3 => {
+                docket[DOCKET_STATE] = 0;
                 let answer = StandIn.offer(docket, words);
                 if answer != 0 {
                     docket.copy_from_slice(&before);
@@ -139,7 +150,7 @@ impl Library for Faulty {
     fn list(&self, bytes: &[u8], text: &mut [u8], length: &mut usize) -> u32 {
         let bytes = match self.0 {
             // A whole word more than the listing takes.
-            LongBytesTaken if bytes.len() == 45_252 => &bytes[..45_248],
+            LongBytesTaken if bytes.len() == MOST_BYTES + WORD_BYTES => &bytes[..MOST_BYTES],
             _ => bytes,
         };
         let answer = StandIn.list(bytes, text, length);
@@ -156,7 +167,8 @@ fn ties_lowered(words: &[u32]) -> Vec<u32> {
     static TIES: OnceLock<HashSet<u32>> = OnceLock::new();
     let ties = TIES.get_or_init(|| ties().into_iter().collect());
     let lowered = |(place, &word): (usize, &u32)| {
-        let is_float = place > FIRST_READING && place % 2 == 0;
+        let in_readings = (FIRST_READING..READINGS_END).contains(&place);
+        let is_float = in_readings && (place - FIRST_READING) % READING_WORDS == BITS;
         word - u32::from(is_float && ties.contains(&word))
     };
     words.iter().enumerate().map(lowered).collect()
@@ -167,10 +179,10 @@ fn distort(fault: Fault, record: &Record, verdicts: &mut [u32]) {
         LimitExcluded => exclude_the_limit(record, verdicts),
         FloorForHydrogen => take_the_floor(record, verdicts),
         CarbonLineIncluded => include_the_carbon_line(record, verdicts),
-        TwentyInTheUpperClass if record.conductivity == 200 && verdicts[0] == 1 => {
+        TwentyInTheUpperClass if record.conductivity == 200 && verdicts[BALANCE_CHECK] == 1 => {
             let mut above = record.clone();
             above.conductivity = 201;
-            verdicts[0] = ion_balance(&above).number();
+            verdicts[BALANCE_CHECK] = ion_balance(&above).number();
         }
         _ => {}
     }
@@ -180,7 +192,7 @@ fn distort(fault: Fault, record: &Record, verdicts: &mut [u32]) {
 fn inequalities(record: &Record) -> Option<[(usize, Box<dyn Inequality>); 2]> {
     let balance = Box::new(IonBalance::of(record)?);
     let conductivity = Box::new(Conductivity::of(record)?);
-    Some([(0, balance), (1, conductivity)])
+    Some([(BALANCE_CHECK, balance), (CONDUCTIVITY_CHECK, conductivity)])
 }
 
 /// "Less" in place of "at most": with hydrogen exactly on a limit, outside.
@@ -206,20 +218,20 @@ fn take_the_floor(record: &Record, verdicts: &mut [u32]) {
     }
 }
 
-/// Runoff with exactly 5,000 µg/L of carbon judged, too.
+/// Runoff with carbon exactly on its line judged, too.
 fn include_the_carbon_line(record: &Record, verdicts: &mut [u32]) {
-    if record.kind == RUNOFF && record.amount(ORGANIC_CARBON) == Some(5_000) {
+    if record.kind == RUNOFF && record.amount(ORGANIC_CARBON) == Some(CARBON_LINE) {
         let mut bulk = record.clone();
-        bulk.kind = 2;
-        verdicts[0] = ion_balance(&bulk).number();
+        bulk.kind = BULK;
+        verdicts[BALANCE_CHECK] = ion_balance(&bulk).number();
     }
 }
 
 /// Reopens, or leaves unsettled, a docket that was confirmed with a difference
 /// of exactly a tenth.
 fn disagree_at_a_tenth(before: &[u32], docket: &mut [u32]) {
-    let records = [&before[2..DOCKET_WORDS], &docket[2..DOCKET_WORDS]].map(Record::read);
-    let (2, [Ok(first), Ok(second)]) = (docket[0], records) else {
+    let records = [&before[HELD], &docket[HELD]].map(Record::read);
+    let (2, [Ok(first), Ok(second)]) = (docket[DOCKET_STATE], records) else {
         return;
     };
     let exact = |a: u32, b: u32| a != b && 10 * a.abs_diff(b) == a.max(b);
@@ -229,7 +241,7 @@ fn disagree_at_a_tenth(before: &[u32], docket: &mut [u32]) {
         (first.alkalinity, second.alkalinity),
     ];
     if words.into_iter().chain(ions).any(|(a, b)| exact(a, b)) {
-        docket[0] = if docket[1] == 3 { 3 } else { 0 };
+        docket[DOCKET_STATE] = if docket[DOCKET_COUNT] == 3 { 3 } else { 0 };
     }
 }
 
@@ -268,17 +280,19 @@ fn without_leftovers(words: &[u32], answer: &mut [u32]) -> u32 {
 
 /// The answer where two charts of one element are read as of two.
 fn with_other_elements(words: &[u32], answer: &mut [u32]) -> u32 {
+    const FIRST: usize = FIRST_CHART + CHART_ELEMENT;
     let renamed = |element: u32| {
         let mut words = words.to_vec();
-        if words.len() > 1 && words[0] == 2 {
-            words[1] = element;
+        if words.len() > FIRST && words[CHART_COUNT] == 2 {
+            words[FIRST] = element;
         }
         answers::batch(&words)
     };
+    let elements = 1..=MOST_ELEMENT;
     let is_in_range = words
-        .get(1)
-        .is_some_and(|element| (1..=10).contains(element));
-    let found = (1..=10).map(renamed).find(Result::is_ok);
+        .get(FIRST)
+        .is_some_and(|element| elements.contains(element));
+    let found = elements.clone().map(renamed).find(Result::is_ok);
     match found {
         Some(found) if is_in_range => write(found, answer),
         _ => write(answers::batch(words), answer),
@@ -289,9 +303,10 @@ fn with_other_elements(words: &[u32], answer: &mut [u32]) -> u32 {
 fn with_all_elements(words: &[u32], answer: &mut [u32]) -> u32 {
     let mut found = answers::batch(words);
     if let Ok(rows) = &mut found {
-        let flagged = rows[1..].chunks(6).any(|row| row[5] == 1);
-        for row in rows[1..].chunks_mut(6) {
-            row[5] |= u32::from(flagged);
+        let rows = &mut rows[COUNT_WORDS..];
+        let flagged = rows.chunks(ROW_WORDS).any(|row| row[ROW_FLAG] == 1);
+        for row in rows.chunks_mut(ROW_WORDS) {
+            row[ROW_FLAG] |= u32::from(flagged);
         }
     }
     write(found, answer)
@@ -300,7 +315,9 @@ fn with_all_elements(words: &[u32], answer: &mut [u32]) -> u32 {
 #[cfg(test)]
 mod tests {
     use super::*;
+    use crate::numbers::{CHART_HEAD, LEAST_SETUP};
     use crate::parts::part;
+    use reference::cases::batches::samples_counted;
 
     #[test]
     fn every_fault_is_found_by_its_part() {
@@ -328,7 +345,8 @@ mod tests {
     #[test]
     fn leftovers_shrink_to_an_empty_batch_and_a_word() {
         let input = smallest_input(LeftoversTaken);
-        assert!(input.contains("all in all [0, 0, 0]"), "{input}");
+        let batch = format!("all in all {:?}", samples_counted(0, &[0]));
+        assert!(input.contains(&batch), "{input}");
     }
 
     #[test]
@@ -338,7 +356,8 @@ mod tests {
             let line = input.lines().find(|line| line.contains(name));
             line.map_or(0, |line| line.matches(',').count() + 1)
         };
-        assert_eq!((values("setup"), values("later")), (10, 6), "{input}");
+        let found = (values("setup"), values("later"));
+        assert_eq!(found, (LEAST_SETUP, 6), "{input}");
     }
 
     #[test]
@@ -350,8 +369,10 @@ mod tests {
     #[test]
     fn a_repeated_element_shrinks_to_two_charts_of_ten() {
         let input = smallest_input(RepeatedElementTaken);
-        let (charts, values) = (input.matches("chart").count(), input.matches(", 10, 0, 0"));
-        assert_eq!((charts, values.count()), (2, 4), "{input}");
-        assert!(input.contains("28 words"), "{input}");
+        let head = format!(", {LEAST_SETUP}, 0, 0");
+        let (charts, heads) = (input.matches("chart").count(), input.matches(&head));
+        assert_eq!((charts, heads.count()), (2, 4), "{input}");
+        let length = FIRST_CHART + 2 * (CHART_HEAD + LEAST_SETUP) + COUNT_WORDS;
+        assert!(input.contains(&format!("{length} words")), "{input}");
     }
 }

@@ -1,16 +1,11 @@
 //! Floats by their amounts: a table of where each amount begins, as the search
 //! for one is too slow for a million records.
 
+use crate::numbers::{LEAST_LIMIT_BITS, MOST_AMOUNT, MOST_BELOW, MOST_BITS};
 use crate::random::Draw;
-use reference::cases::floats::{least_float_of, GREATEST, LEAST_LIMIT};
+use reference::cases::floats::{least_float_of, DOUBLE};
 use reference::cases::generator::Generator;
 use std::sync::OnceLock;
-
-pub const MOST_AMOUNT: u32 = 200_000;
-/// Half the greatest limit, in µg/L.
-const MOST_BELOW: u32 = 100_000;
-/// A float's double has the next greater exponent.
-const DOUBLE: u32 = 0x0080_0000;
 
 /// The least float of every amount, and behind them the one beyond 200.0.
 fn firsts() -> &'static [u32] {
@@ -40,8 +35,8 @@ pub fn any_limit(generator: &mut Generator, amount: u32) -> Option<u32> {
         return None;
     }
     let (first, last) = ends(amount);
-    let first = (first + DOUBLE).max(LEAST_LIMIT);
-    let last = (last + DOUBLE).min(GREATEST);
+    let first = (first + DOUBLE).max(LEAST_LIMIT_BITS);
+    let last = (last + DOUBLE).min(MOST_BITS);
     Some(match generator.below(4) {
         0 => first,
         1 => last,
@@ -62,22 +57,33 @@ pub fn any_reading(generator: &mut Generator, amount: u32) -> (u32, u32) {
 /// place of its amount.
 pub fn scattered_reading(generator: &mut Generator) -> (u32, u32) {
     match generator.below(8) {
-        0 => (1, generator.of_any_size(GREATEST)),
-        1 | 2 => (2, generator.between(LEAST_LIMIT, GREATEST)),
-        _ => (1, generator.between(LEAST_LIMIT, GREATEST)),
+        0 => (1, generator.of_any_size(MOST_BITS)),
+        1 | 2 => (2, generator.between(LEAST_LIMIT_BITS, MOST_BITS)),
+        _ => (1, generator.between(LEAST_LIMIT_BITS, MOST_BITS)),
     }
 }
 
 #[cfg(test)]
 mod tests {
     use super::*;
+    use crate::numbers::CARBON_LINE;
     use reference::readings::Reading;
 
     #[test]
     fn drawn_readings_have_their_amounts() {
         let mut generator = Generator::new(1);
+        let (line, half) = (CARBON_LINE, MOST_BELOW);
         for amount in [
-            0, 1, 62, 63, 4_999, 5_000, 99_999, 100_000, 100_001, 200_000,
+            0,
+            1,
+            62,
+            63,
+            line - 1,
+            line,
+            half - 1,
+            half,
+            half + 1,
+            MOST_AMOUNT,
         ] {
             for _ in 0..200 {
                 let (mark, bits) = any_reading(&mut generator, amount);

@@ -10,7 +10,7 @@ pub trait Library {
     /// The mark and the bits of a reading, from the analyser's two floats.
     fn reading(&self, value: f32, limit: f32, words: &mut [u32]) -> u32;
 
-    /// A fresh docket of 27 words: state, count, last record.
+    /// A fresh docket: state, count, last record.
     fn fresh(&self, docket: &mut [u32]) -> u32;
 
     /// An offer to a docket, which changes in place.
@@ -19,7 +19,7 @@ pub trait Library {
     /// A signal word for each later value of a chart.
     fn signals(&self, setup: &[u32], later: &[u32], signals: &mut [u32]) -> u32;
 
-    /// The sample count and six words a sample.
+    /// The sample count and a row for each sample.
     fn batch(&self, words: &[u32], answer: &mut [u32]) -> u32;
 
     /// The listing program's text; its length is told through `length`.

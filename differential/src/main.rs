@@ -12,6 +12,7 @@ mod charts;
 mod faults;
 mod floats;
 mod library;
+mod numbers;
 mod offers;
 mod on_the_limit;
 mod outcome;
@@ -126,17 +127,22 @@ fn print_mismatch(mismatch: &Mismatch) {
 /// Runs the part of every fault; true where each finds its own.
 #[cfg(feature = "stand-in")]
 fn find_faults(seed: u32) -> bool {
-    let mut all_found = true;
+    let mut missed = Vec::new();
     for (fault, name) in faults::FAULTS {
         let report = part(name).map(|part| part.run(&faults::Faulty(fault), seed));
         let Some(report) = report else { return false };
         println!("{fault:?}\n{}", line(name, &report));
         match &report.mismatch {
             Some(mismatch) => print_mismatch(mismatch),
-            None => all_found = false,
+            None => missed.push(fault),
         }
     }
-    all_found
+    let all = faults::FAULTS.len();
+    println!("{} of {all} faults found", all - missed.len());
+    if !missed.is_empty() {
+        println!("not found: {missed:?}");
+    }
+    missed.is_empty()
 }
 
 /// Without the stand-in there is nothing to put faults into.

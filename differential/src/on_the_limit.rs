@@ -6,21 +6,23 @@
 //! implementation tells which). The ions that give a wanted N are found by
 //! remainders here, where `Bound` itself searches step by step.
 
+use crate::numbers::{
+    self, CALCIUM, CHLORIDE, CONDUCTIVITY_TENTH, IONS, LEAST_PH, MOST_CONDUCTIVITY, MOST_PH,
+    NITRATE, POTASSIUM, SULPHATE,
+};
 use crate::random::Draw;
 use reference::cases::bottle::Bottle;
 use reference::cases::floats::float_of;
 use reference::cases::generator::Generator;
 use reference::cases::solver::{
     balance_weights, conducted, sum_conducted, Bound, End, CONDUCTED_BY_ALKALINITY, ENDS,
+    TENTH_CHARGES,
 };
 use reference::hydrogen::Ph;
-use reference::ions::{
-    ANIONS, CALCIUM, CATIONS, CHLORIDE, HYDROGEN_CONDUCTANCE, IONS, NITRATE, POTASSIUM, SULPHATE,
-    TABLE,
-};
+use reference::ions::{ANIONS, CATIONS, HYDROGEN_CONDUCTANCE, TABLE};
 
-const MOST_AMOUNT: i128 = 200_000;
-const MOST_ALKALINITY: i128 = 200_000;
+const MOST_AMOUNT: i128 = numbers::MOST_AMOUNT as i128;
+const MOST_ALKALINITY: i128 = numbers::MOST_ALKALINITY as i128;
 /// How often the ions are drawn again before a search gives up.
 const DRAWS: usize = 4_000;
 
@@ -36,7 +38,7 @@ pub fn bottle_on_a_limit(generator: &mut Generator) -> Option<Bottle> {
     let h = i128::from(ph.floor());
     if let Bound::Conductivity(tenths, _) = &mut bound {
         // Less conductivity than hydrogen alone makes is never within.
-        let least = 2 * HYDROGEN_CONDUCTANCE * h / 1_000_000_000_000;
+        let least = 2 * HYDROGEN_CONDUCTANCE * h / CONDUCTIVITY_TENTH;
         *tenths = tenths_from(generator, least as u32 + 10);
     }
     let n = bound.last_up_to(h) - 1 + i128::from(generator.below(4));
@@ -54,17 +56,20 @@ fn drawn_ph(generator: &mut Generator, bound: Bound) -> Option<Ph> {
     let promising: Vec<Ph> = match generator.below(4) {
         0 => broken_hydrogen(|h| bound.is_between(bound.last_up_to(h) + 1, h)),
         1 => broken_hydrogen(|h| h % unit == 0 || (h + 1) % unit == 0),
-        _ => (2..=10).filter_map(|n| Ph::new(100 * n).ok()).collect(),
+        _ => (LEAST_PH..=MOST_PH)
+            .step_by(100)
+            .filter_map(|p| Ph::new(p).ok())
+            .collect(),
     };
     match promising.as_slice() {
-        [] => Ph::new(generator.between(200, 1_000)).ok(),
+        [] => Ph::new(generator.between(LEAST_PH, MOST_PH)).ok(),
         promising => Some(generator.pick(promising)),
     }
 }
 
 /// Every p that isn't a multiple of 100 with such a floor.
 fn broken_hydrogen(floor: impl Fn(i128) -> bool) -> Vec<Ph> {
-    (200..=1_000)
+    (LEAST_PH..=MOST_PH)
         .filter_map(|p| Ph::new(p).ok())
         .filter(|ph| !ph.has_whole_hydrogen() && floor(i128::from(ph.floor())))
         .collect()
@@ -72,14 +77,14 @@ fn broken_hydrogen(floor: impl Fn(i128) -> bool) -> Vec<Ph> {
 
 /// A measured conductivity of at least this, now and then at an end of a class.
 fn tenths_from(generator: &mut Generator, least: u32) -> u32 {
-    let ends: Vec<u32> = [1, 100, 101, 200, 201, 100_000]
+    let ends: Vec<u32> = [1, 100, 101, 200, 201, MOST_CONDUCTIVITY]
         .into_iter()
         .filter(|&tenths| tenths >= least)
         .collect();
     match ends.as_slice() {
-        [] => 100_000,
+        [] => MOST_CONDUCTIVITY,
         ends if generator.once_in(2) => generator.pick(ends),
-        _ => (least + generator.of_any_size(4_000)).min(100_000),
+        _ => (least + generator.of_any_size(4_000)).min(MOST_CONDUCTIVITY),
     }
 }
 
@@ -145,17 +150,17 @@ fn balancing(generator: &mut Generator, tenths: u32, end: End, n: i128) -> Optio
 }
 
 /// Draws sulphate and nitrate; chloride is what leaves a whole number of tenths
-/// of a µeq/L, 10^4 units, to alkalinity.
+/// of a µeq/L to alkalinity.
 fn anions_of(generator: &mut Generator, mut amounts: [i128; IONS], anions: i128) -> Option<Ions> {
     for ion in [SULPHATE, NITRATE] {
         let most = anions / 3 / TABLE[ion].factor;
         amounts[ion] = i128::from(generator.below(most.clamp(0, MOST_AMOUNT) as u32 + 1));
     }
-    const INVERSE: i128 = inverse(TABLE[CHLORIDE].factor, 10_000);
+    const INVERSE: i128 = inverse(TABLE[CHLORIDE].factor, TENTH_CHARGES);
     let rest = anions - charges(&amounts, ANIONS);
     let factor = TABLE[CHLORIDE].factor;
-    amounts[CHLORIDE] = (rest * INVERSE).rem_euclid(10_000);
-    let alkalinity = (rest - amounts[CHLORIDE] * factor) / 10_000;
+    amounts[CHLORIDE] = (rest * INVERSE).rem_euclid(TENTH_CHARGES);
+    let alkalinity = (rest - amounts[CHLORIDE] * factor) / TENTH_CHARGES;
     let ions = Ions {
         amounts,
         alkalinity,
@@ -205,13 +210,15 @@ fn ions_conducting(generator: &mut Generator, sum: i128) -> Option<Ions> {
 mod tests {
     use super::*;
     use crate::answers::judge;
+    use crate::numbers::{BALANCE_CHECK, CONDUCTIVITY_CHECK};
     use reference::checks::{Conductivity, Fraction, Inequality, IonBalance, Span};
     use reference::record::Record;
 
     #[test]
     fn inverses_are_inverses() {
         assert_eq!(A * INVERSE % B, 1);
-        assert_eq!(2821 * inverse(2821, 10_000) % 10_000, 1);
+        let factor = TABLE[CHLORIDE].factor;
+        assert_eq!(factor * inverse(factor, TENTH_CHARGES) % TENTH_CHARGES, 1);
     }
 
     /// Whether the fraction is less than a step of N from this hydrogen.
@@ -245,8 +252,8 @@ mod tests {
         for bottle in (0..4_000).filter_map(|_| bottle_on_a_limit(&mut generator)) {
             let record = Record::read(bottle.words()).expect("a record");
             let verdicts = judge(bottle.words()).expect("a record");
-            for check in [0, 1] {
-                undecided[check] += u32::from(verdicts[check] == 3);
+            for (place, check) in [BALANCE_CHECK, CONDUCTIVITY_CHECK].into_iter().enumerate() {
+                undecided[place] += u32::from(verdicts[check] == 3);
             }
             let h = i128::from(record.ph.floor());
             let is_on = |whole: i128| {

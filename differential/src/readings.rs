@@ -4,23 +4,21 @@ use crate::answers;
 use crate::canary::Lent;
 use crate::case::{Case, Difference, Mismatch, Run};
 use crate::library::Library;
+use crate::numbers::{LEAST_LIMIT_BITS, MOST_BITS, MOST_READING_ROOM, READING_WORDS};
 use crate::outcome::Outcome;
 use crate::random::Draw;
 use crate::shrink::{simpler_room, simpler_word};
-use reference::cases::floats::{GREATEST, LEAST_LIMIT};
 use reference::cases::generator::Generator;
 use reference::cases::readings::EDGES;
 
 const DRAWN: u32 = 1_000_000;
-const MOST_ROOM: u32 = 4;
-const READING_WORDS: usize = 2;
 /// 1.0, as plain as a value or a limit can be.
 const PLAIN: u32 = 0x3F80_0000;
 
 pub fn run(run: &mut Run) -> Result<(), Mismatch> {
     for value in EDGES {
         for limit in EDGES {
-            for room in 0..=MOST_ROOM as usize {
+            for room in 0..=MOST_READING_ROOM {
                 run.check(ReadingCase { value, limit, room })?;
             }
         }
@@ -39,7 +37,7 @@ fn drawn(generator: &mut Generator) -> ReadingCase {
         0 => (limit.wrapping_add(generator.below(3))).wrapping_sub(1),
         _ => bits(generator),
     };
-    let room = generator.between(0, MOST_ROOM) as usize;
+    let room = generator.place(MOST_READING_ROOM + 1);
     ReadingCase { value, limit, room }
 }
 
@@ -48,10 +46,10 @@ fn bits(generator: &mut Generator) -> u32 {
     match generator.below(8) {
         0 => generator.word(),
         1 => generator.pick(&EDGES),
-        2 => generator.between(0, GREATEST),
+        2 => generator.between(0, MOST_BITS),
         // A number with its sign bit set.
-        3 => generator.between(0, GREATEST) | 0x8000_0000,
-        _ => generator.between(LEAST_LIMIT, GREATEST),
+        3 => generator.between(0, MOST_BITS) | 0x8000_0000,
+        _ => generator.between(LEAST_LIMIT_BITS, MOST_BITS),
     }
 }
 

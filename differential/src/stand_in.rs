@@ -1,8 +1,9 @@
 //! The library's stand-in: the other implementation behind the same seven
 //! functions, so that the comparison can be tried without the library.
 
-use crate::answers::{self, DOCKET_WORDS};
+use crate::answers;
 use crate::library::Library;
+use crate::numbers::DOCKET_WORDS;
 use reference::refusals::{Refusal, OUTPUT};
 
 pub struct StandIn;

@@ -3,24 +3,29 @@
 use crate::canary::Lent;
 use crate::case::{Case, Difference, Mismatch, Run};
 use crate::library::Library;
+use crate::numbers::{BULK, CHECKS, CONDUCTIVITY_CHECK, READINGS};
 use crate::records::describe_record;
 use reference::cases::bottle::Bottle;
-use reference::record::READINGS;
 
 const SHEET: &str = include_str!("../validation/sheet.tsv");
 
-/// The sheet doesn't print a kind; to bulk samples of the open field all four
-/// checks apply, as all four have been done there.
-const BULK: u32 = 2;
+/// The sheet's columns: the readings stand together in a record's order, and so
+/// do the judgements.
+const NUMBER_COLUMN: usize = 0;
+const PH_COLUMN: usize = 1;
+const CONDUCTIVITY_COLUMN: usize = 2;
+const ALKALINITY_COLUMN: usize = 3;
+const READING_COLUMNS: usize = 4;
+const JUDGEMENT_COLUMNS: usize = READING_COLUMNS + READINGS;
 
-const CHECKS: [&str; 4] = ["ion balance", "conductivity", "Na/Cl", "nitrogen"];
+const NAMES: [&str; CHECKS] = ["ion balance", "conductivity", "Na/Cl", "nitrogen"];
 
 /// The one judgement in which document 01 and the sheet part: conductivity in
 /// row 20. The sheet corrects the calculated conductivity for ionic strength,
 /// which takes it from less than a tenth below the measured 41.1 µS/cm to more:
 /// there it is outside, printed as −11 %. Document 01 doesn't correct, and has
 /// it within.
-const PARTING: (u32, usize) = (20, 1);
+const PARTING: (u32, usize) = (20, CONDUCTIVITY_CHECK);
 
 pub fn run(run: &mut Run) -> Result<(), Mismatch> {
     for row in rows() {
@@ -34,7 +39,7 @@ pub fn run(run: &mut Run) -> Result<(), Mismatch> {
 struct Row {
     number: u32,
     record: Bottle,
-    published: [u32; 4],
+    published: [u32; CHECKS],
 }
 
 fn rows() -> Vec<Row> {
@@ -45,20 +50,22 @@ fn rows() -> Vec<Row> {
 impl Row {
     fn read(line: &str) -> Row {
         let fields: Vec<&str> = line.split('\t').collect();
-        let number = fields[0].parse().expect("a row number");
+        let number = fields[NUMBER_COLUMN].parse().expect("a row number");
+        // The sheet doesn't print a kind; to bulk samples of the open field all
+        // four checks apply, as all four have been done there.
         let mut record = Bottle::without_ions()
             .number(number)
             .kind(BULK)
-            .ph(scaled(fields[1], 2))
-            .conductivity(scaled(fields[2], 1))
-            .alkalinity(scaled(fields[3], 1));
+            .ph(scaled(fields[PH_COLUMN], 2))
+            .conductivity(scaled(fields[CONDUCTIVITY_COLUMN], 1))
+            .alkalinity(scaled(fields[ALKALINITY_COLUMN], 1));
         for place in 0..READINGS {
-            record = match fields[4 + place] {
+            record = match fields[READING_COLUMNS + place] {
                 "" => record.missing(place),
                 value => record.reading(place, 1, nearest_float(value)),
             };
         }
-        let published = [14, 15, 16, 17].map(|field| verdict(fields[field]));
+        let published = std::array::from_fn(|check| verdict(fields[JUDGEMENT_COLUMNS + check]));
         Row {
             number,
             record,
@@ -67,7 +74,7 @@ impl Row {
     }
 
     /// What is due: what is published, but for the one judgement that parts.
-    fn due(&self) -> [u32; 4] {
+    fn due(&self) -> [u32; CHECKS] {
         let mut due = self.published;
         if self.number == PARTING.0 {
             due[PARTING.1] = 1;
@@ -103,7 +110,7 @@ fn verdict(judgement: &str) -> u32 {
 
 impl Case for Row {
     fn difference(&self, library: &dyn Library) -> Option<Difference> {
-        let mut lent = Lent::<u32>::of_length(4);
+        let mut lent = Lent::<u32>::of_length(CHECKS);
         let answer = library.judge(self.record.words(), lent.slice());
         let found = (answer, lent.content());
         (found != (0, &self.due())).then(|| Difference {
@@ -124,7 +131,7 @@ impl Case for Row {
 }
 
 fn describe(answer: u32, verdicts: &[u32]) -> String {
-    let verdicts: Vec<String> = CHECKS
+    let verdicts: Vec<String> = NAMES
         .iter()
         .zip(verdicts)
         .map(|(check, verdict)| format!("{check} {verdict}"))
@@ -139,13 +146,16 @@ fn describe(answer: u32, verdicts: &[u32]) -> String {
 mod tests {
     use super::*;
     use crate::answers::judge;
+    use crate::numbers::RANGES;
 
     #[test]
     fn the_sheet_has_24_rows_of_bulk_samples() {
         let rows = rows();
         let numbers: Vec<u32> = rows.iter().map(|row| row.number).collect();
         assert_eq!(numbers, (9..=32).collect::<Vec<u32>>());
-        assert_eq!(rows[0].record.words()[..5], [9, 2, 589, 456, 80]);
+        let first = rows[0].record.words();
+        let before_readings = RANGES.map(|(place, _, _)| first[place]);
+        assert_eq!(before_readings, [9, BULK, 589, 456, 80]);
         assert!(rows.iter().all(|row| judge(row.record.words()).is_ok()));
     }
 

@@ -2,15 +2,12 @@
 
 use crate::charts::{last_signal, test_counts, test_values};
 use crate::checks::{verdicts, Verdict};
-use crate::record::{Record, LENGTH, READINGS};
+use crate::numbers::{
+    reading_of, CHART_ELEMENT, CHART_HEAD, CHART_LATER, CHART_SETUP, ELEMENTS, MOST_CHARTS,
+    MOST_SAMPLES, RECORD_WORDS, ROW_FLAG, ROW_NUMBER, ROW_VERDICTS, ROW_WORDS,
+};
+use crate::record::Record;
 use crate::refusals::{require, Refusal, BATCH_LENGTH, CHART, COUNT, OUTPUT};
-
-/// "charts (0 to 10 ..), then samples (0 to 400 records)"
-const MOST_CHARTS: u32 = 10;
-pub const MOST_SAMPLES: u32 = 400;
-
-/// "The output is the sample count, then six words a sample."
-pub const ROW: usize = 6;
 
 /// "A batch is read from the front, each part whole (else 8) before its tests."
 struct Reader<'a> {
@@ -50,9 +47,10 @@ struct Chart {
 
 /// "a chart's first three words, element 10, then counts 9; its values 10"
 fn read_chart(reader: &mut Reader, earlier: &[Chart]) -> Result<Chart, Refusal> {
-    let head = reader.part(3)?;
-    let (element, setup_count, later_count) = (head[0], head[1] as usize, head[2] as usize);
-    require((1..=READINGS as u32).contains(&element), CHART)?;
+    let head = reader.part(CHART_HEAD)?;
+    let element = head[CHART_ELEMENT];
+    let (setup_count, later_count) = (head[CHART_SETUP] as usize, head[CHART_LATER] as usize);
+    require(ELEMENTS.contains(&element), CHART)?;
     require(earlier.iter().all(|chart| chart.element != element), CHART)?;
     test_counts(setup_count, later_count)?;
     let values = reader.part(setup_count + later_count)?;
@@ -72,12 +70,12 @@ fn read_charts(reader: &mut Reader) -> Result<Vec<Chart>, Refusal> {
     Ok(charts)
 }
 
-/// "a record 2 to 7": as a part of the batch it has its 25 words or gives 8.
+/// "a record 2 to 7": as a part of the batch it has all its words or gives 8.
 fn read_samples(reader: &mut Reader) -> Result<Vec<Record>, Refusal> {
     let count = reader.section_count(MOST_SAMPLES)?;
     let mut samples = Vec::new();
     for _ in 0..count {
-        samples.push(Record::read(reader.part(LENGTH)?)?);
+        samples.push(Record::read(reader.part(RECORD_WORDS)?)?);
     }
     Ok(samples)
 }
@@ -85,16 +83,18 @@ fn read_samples(reader: &mut Reader) -> Result<Vec<Record>, Refusal> {
 /// "1 if some chart whose element isn't missing in the sample has a nonzero
 /// signal at its last later value, else 0."
 fn flag(charts: &[Chart], sample: &Record) -> u32 {
-    let concerns = |chart: &Chart| !sample.readings[chart.element as usize - 1].is_missing();
+    let concerns = |chart: &Chart| !sample.readings[reading_of(chart.element)].is_missing();
     let flagged = charts.iter().any(|chart| chart.signals && concerns(chart));
     u32::from(flagged)
 }
 
 /// "six words a sample: number, four verdicts in the order above, and" the flag.
-fn row(charts: &[Chart], sample: &Record) -> [u32; ROW] {
-    let [balance, conductivity, sodium, nitrogen] = verdicts(sample).map(Verdict::number);
-    let flag = flag(charts, sample);
-    [sample.number, balance, conductivity, sodium, nitrogen, flag]
+fn row(charts: &[Chart], sample: &Record) -> [u32; ROW_WORDS] {
+    let mut row = [0; ROW_WORDS];
+    row[ROW_NUMBER] = sample.number;
+    row[ROW_VERDICTS..ROW_FLAG].copy_from_slice(&verdicts(sample).map(Verdict::number));
+    row[ROW_FLAG] = flag(charts, sample);
+    row
 }
 
 /// The answer to a batch: the sample count and the rows.
@@ -121,18 +121,36 @@ pub fn judge(batch: &[u32], output: &mut [u32]) -> Result<usize, Refusal> {
 #[cfg(test)]
 mod tests {
     use super::*;
-    use crate::cases::batches::{batch, chart, flat};
+    use crate::cases::batches::{batch, chart, chart_head, charts_counted, flat, samples_counted};
     use crate::cases::bottle::Bottle;
+    use crate::cases::greatest_batch::peltquarry_input;
+    use crate::numbers::{
+        answer_words, CHLORIDE, LEAST_SETUP, MOST_ANSWER, MOST_BATCH, MOST_LATER, MOST_VALUE,
+        READINGS,
+    };
+    use crate::words::whole_words;
 
     fn small() -> Vec<u32> {
         let charts = [chart(8, &flat(), &[1_000, 2_000]), chart(2, &flat(), &[])];
-        batch(&charts, &[Bottle::printed(), Bottle::printed().missing(7)])
+        let without_chloride = Bottle::printed().missing(CHLORIDE);
+        batch(&charts, &[Bottle::printed(), without_chloride])
+    }
+
+    /// The answer to it: two samples, each with number, verdicts and flag.
+    fn small_answer() -> Vec<u32> {
+        vec![2, 7, 1, 1, 1, 1, 1, 7, 4, 4, 4, 1, 0]
     }
 
     #[test]
     fn a_small_batch_is_answered() {
-        let expected = [2, 7, 1, 1, 1, 1, 1, 7, 4, 4, 4, 1, 0];
-        assert_eq!(answer(&small()), Ok(expected.to_vec()));
+        assert_eq!(answer(&small()), Ok(small_answer()));
+    }
+
+    #[test]
+    fn the_greatest_batch_has_the_longest_answer() {
+        let words = whole_words(&peltquarry_input());
+        assert_eq!(words.len(), MOST_BATCH);
+        assert_eq!(answer(&words).map(|answer| answer.len()), Ok(MOST_ANSWER));
     }
 
     #[test]
@@ -146,28 +164,34 @@ mod tests {
 
     #[test]
     fn the_lent_words_change_only_in_an_answer() {
-        let mut output = [5; 14];
-        assert_eq!(judge(&small(), &mut output[..12]), Err(13));
-        assert_eq!(output, [5; 14]);
-        assert_eq!(judge(&small(), &mut output), Ok(13));
-        assert_eq!(output, [2, 7, 1, 1, 1, 1, 1, 7, 4, 4, 4, 1, 0, 5]);
+        let length = answer_words(2);
+        let before = vec![5; length + 1];
+        let mut output = before.clone();
+        assert_eq!(judge(&small(), &mut output[..length - 1]), Err(13));
+        assert_eq!(output, before);
+        assert_eq!(judge(&small(), &mut output), Ok(length));
+        assert_eq!(output, [small_answer(), vec![5]].concat());
     }
 
     #[test]
     fn refusals_in_the_order_of_reading() {
         assert_eq!(answer(&[]), Err(8));
-        assert_eq!(answer(&[11]), Err(9));
-        assert_eq!(answer(&[1, 0, 9]), Err(8));
-        assert_eq!(answer(&[1, 0, 9, 65]), Err(10));
-        assert_eq!(answer(&[1, 11, 9, 65]), Err(10));
-        assert_eq!(answer(&[1, 1, 9, 65]), Err(9));
-        assert_eq!(answer(&[1, 1, 10, 65]), Err(9));
-        assert_eq!(answer(&[1, 1, 10, 0, 200_001]), Err(8));
-        assert_eq!(answer(&[0, 401]), Err(9));
-        assert_eq!(answer(&[0, 0]), Ok(vec![0]));
-        let repeated = [chart(8, &flat(), &[]), vec![8, 9, 65]];
+        assert_eq!(answer(&charts_counted(MOST_CHARTS + 1, &[])), Err(9));
+        let begun = |head: &[u32]| answer(&charts_counted(1, head));
+        let (few, many) = (LEAST_SETUP - 1, MOST_LATER + 1);
+        let bad_head = chart_head(0, few, many);
+        assert_eq!(begun(&bad_head[..CHART_HEAD - 1]), Err(8));
+        assert_eq!(begun(&bad_head), Err(10));
+        assert_eq!(begun(&chart_head(READINGS as u32 + 1, few, many)), Err(10));
+        assert_eq!(begun(&chart_head(1, few, many)), Err(9));
+        assert_eq!(begun(&chart_head(1, LEAST_SETUP, many)), Err(9));
+        let cut = [chart_head(1, LEAST_SETUP, 0), vec![MOST_VALUE + 1]];
+        assert_eq!(begun(&cut.concat()), Err(8));
+        assert_eq!(answer(&samples_counted(MOST_SAMPLES + 1, &[])), Err(9));
+        assert_eq!(answer(&samples_counted(0, &[])), Ok(vec![0]));
+        let repeated = [chart(8, &flat(), &[]), chart_head(8, few, many)];
         assert_eq!(answer(&batch(&repeated, &[])), Err(10));
-        let bad_value = [chart(8, &[200_001; 10], &[])];
+        let bad_value = [chart(8, &[MOST_VALUE + 1; LEAST_SETUP], &[])];
         assert_eq!(
             answer(&batch(&bad_value, &[Bottle::printed().kind(0)])),
             Err(10)

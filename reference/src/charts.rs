@@ -1,5 +1,6 @@
 //! "Charts": control charts of values in µg/L.
 
+use crate::numbers::{LEAST_SETUP, MOST_LATER, MOST_SETUP, MOST_VALUE};
 use crate::refusals::{require, Refusal, CHART, COUNT, OUTPUT};
 use std::cmp::Ordering;
 
@@ -15,12 +16,13 @@ pub const SEVEN_IN_ONE_DIRECTION: u32 = 8;
 
 /// "10 to 64 setup values, then 0 to 64 later ones": else 9.
 pub fn test_counts(setup: usize, later: usize) -> Result<(), Refusal> {
-    require((10..=64).contains(&setup) && later <= 64, COUNT)
+    let setup_fits = (LEAST_SETUP..=MOST_SETUP).contains(&setup);
+    require(setup_fits && later <= MOST_LATER, COUNT)
 }
 
 /// "Values in µg/L, 0 to 200,000": else 10.
 pub fn test_values(values: &[u32]) -> Result<(), Refusal> {
-    require(values.iter().all(|&value| value <= 200_000), CHART)
+    require(values.iter().all(|&value| value <= MOST_VALUE), CHART)
 }
 
 /// "With n setup values, sum S and sum of squares Q".
@@ -142,7 +144,7 @@ mod tests {
     use crate::cases::charts::{PAIRS_BEYOND_TWO, RISING_THROUGH_THE_LIMITS, WITHOUT_VARIANCE};
 
     /// Mean 1,000; two deviations are 4 exactly, three are 6 exactly.
-    const SETUP: [u32; 10] = [1003, 997, 1003, 997, 1000, 1000, 1000, 1000, 1000, 1000];
+    const SETUP: [u32; LEAST_SETUP] = [1003, 997, 1003, 997, 1000, 1000, 1000, 1000, 1000, 1000];
 
     fn words(later: &[u32]) -> Vec<u32> {
         words_by(&SETUP, later)
@@ -214,7 +216,7 @@ mod tests {
     #[test]
     fn without_variance_every_value_off_the_mean_is_beyond() {
         let mut output = [99; 3];
-        let answer = signals(&[5; 10], &[5, 6, 4], &mut output);
+        let answer = signals(&[5; LEAST_SETUP], &[5, 6, 4], &mut output);
         assert_eq!((answer, output), (Ok(3), [0, 1, 1]));
         assert_worked(WITHOUT_VARIANCE);
     }
@@ -222,11 +224,12 @@ mod tests {
     #[test]
     fn refusals_in_their_order() {
         let mut output = [7];
-        let beyond = [200_001];
-        assert_eq!(signals(&SETUP[..9], &beyond, &mut []), Err(9));
-        assert_eq!(signals(&SETUP, &[0; 65], &mut output), Err(9));
+        let beyond = [MOST_VALUE + 1];
+        let too_few = &SETUP[..LEAST_SETUP - 1];
+        assert_eq!(signals(too_few, &beyond, &mut []), Err(9));
+        assert_eq!(signals(&SETUP, &[0; MOST_LATER + 1], &mut output), Err(9));
         assert_eq!(signals(&SETUP, &beyond, &mut []), Err(10));
-        assert_eq!(signals(&[200_001; 10], &[], &mut []), Err(10));
+        assert_eq!(signals(&beyond.repeat(LEAST_SETUP), &[], &mut []), Err(10));
         assert_eq!(signals(&SETUP, &[1, 1], &mut output), Err(13));
         assert_eq!(output, [7]);
     }

@@ -2,10 +2,13 @@
 
 use crate::hydrogen::Ph;
 use crate::ions::{
-    alkalinity_charge, charge, ALKALINITY_CONDUCTANCE, AMMONIUM, ANIONS, CATIONS, CHLORIDE,
-    HYDROGEN_CONDUCTANCE, IONS, NITRATE, ORGANIC_CARBON, SODIUM, TABLE, TOTAL_NITROGEN,
+    alkalinity_charge, charge, ALKALINITY_CONDUCTANCE, ANIONS, CATIONS, HYDROGEN_CONDUCTANCE, TABLE,
 };
-use crate::record::{Record, BULK, RUNOFF, STEMFLOW, WET_ONLY};
+use crate::numbers::{
+    AMMONIUM, BULK, CARBON_LINE, CHECKS, CHLORIDE, CONDUCTIVITY_TENTH, IONS, NITRATE,
+    ORGANIC_CARBON, RUNOFF, SODIUM, STEMFLOW, TOTAL_NITROGEN, WET_ONLY,
+};
+use crate::record::Record;
 
 /// "Verdicts: 0 not applicable, 1 within, 2 outside, 3 undecided, 4 a needed
 /// reading is missing."
@@ -33,7 +36,7 @@ impl Verdict {
 }
 
 /// The four verdicts in the document's order.
-pub fn verdicts(record: &Record) -> [Verdict; 4] {
+pub fn verdicts(record: &Record) -> [Verdict; CHECKS] {
     [
         ion_balance(record),
         conductivity(record),
@@ -192,7 +195,7 @@ fn balance_applies(record: &Record) -> bool {
         WET_ONLY | BULK => true,
         RUNOFF => record
             .amount(ORGANIC_CARBON)
-            .is_some_and(|carbon| carbon < 5_000),
+            .is_some_and(|carbon| carbon < CARBON_LINE),
         _ => false,
     }
 }
@@ -227,8 +230,7 @@ impl Conductivity {
         let alkalinity = ALKALINITY_CONDUCTANCE * alkalinity_charge(record.alkalinity);
         Some(Conductivity {
             others: alkalinity + (0..IONS).map(part_of).sum::<i128>(),
-            // A tenth of a µS/cm is 10^12 units of 10^−13 µS/cm.
-            measured: i128::from(record.conductivity) * 1_000_000_000_000,
+            measured: i128::from(record.conductivity) * CONDUCTIVITY_TENTH,
             limit: conductivity_limit(record.conductivity),
         })
     }

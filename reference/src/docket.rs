@@ -1,8 +1,8 @@
 //! "The docket".
 
 use crate::checks::is_consistent;
-use crate::ions::IONS;
-use crate::record::{is_same_sample, Record, LENGTH};
+use crate::numbers::{IONS, RECORD_WORDS};
+use crate::record::{is_same_sample, Record};
 use crate::refusals::{require, Refusal, DOCKET, OTHER_SAMPLE};
 
 /// "It is open, consistent, confirmed or unsettled."
@@ -84,7 +84,7 @@ impl PlainDocket {
     }
 
     /// The words of the last record taken.
-    pub fn last(&self) -> Option<&[u32; LENGTH]> {
+    pub fn last(&self) -> Option<&[u32; RECORD_WORDS]> {
         self.taken.last().map(|record| &record.words)
     }
 
@@ -104,13 +104,13 @@ impl PlainDocket {
 }
 
 /// A docket as it is handed in and returned: state, count and held record.
-pub type Docket = (State, u32, [u32; LENGTH]);
+pub type Docket = (State, u32, [u32; RECORD_WORDS]);
 
 /// An offer to any docket that is handed in, also one that no offers produce.
 pub fn offer(
     state: State,
     count: u32,
-    held: &[u32; LENGTH],
+    held: &[u32; RECORD_WORDS],
     slice: &[u32],
 ) -> Result<Docket, Refusal> {
     let record = Record::read(slice)?;
@@ -127,7 +127,7 @@ pub fn offer(
 /// above 2, or with a count of 1 or 2 and a held record that the record's own
 /// tests refuse, which no offers produce, is refused 11." "A fresh docket is
 /// open with count 0, whatever record it holds."
-fn record_before(count: u32, held: &[u32; LENGTH]) -> Result<Option<Record>, Refusal> {
+fn record_before(count: u32, held: &[u32; RECORD_WORDS]) -> Result<Option<Record>, Refusal> {
     match count {
         0 => Ok(None),
         1 | 2 => Record::read(held).map(Some).map_err(|_| DOCKET),

@@ -1,7 +1,7 @@
 //! The program `follow`: records offered in turn to a fresh docket.
 
 use crate::docket::PlainDocket;
-use crate::record::LENGTH;
+use crate::numbers::{RECORD_WORDS, WORD_BYTES};
 use crate::words::whole_words;
 
 /// A line `ANSWER STATE COUNT` for each offer. A rest that is no whole record
@@ -9,7 +9,7 @@ use crate::words::whole_words;
 pub fn text(bytes: &[u8]) -> String {
     let mut docket = PlainDocket::new();
     bytes
-        .chunks(4 * LENGTH)
+        .chunks(WORD_BYTES * RECORD_WORDS)
         .map(|offer| line(&mut docket, &whole_words(offer)))
         .collect()
 }

@@ -1,6 +1,7 @@
 //! "Hydrogen": the unit u, the true hydrogen H and its floor h.
 
 use crate::big::Big;
+use crate::numbers::{LEAST_PH, MOST_PH};
 use crate::refusals::{require, Refusal, PH};
 use std::sync::OnceLock;
 
@@ -8,17 +9,16 @@ use std::sync::OnceLock;
 #[derive(Clone, Copy, Debug, PartialEq, Eq)]
 pub struct Ph(u32);
 
-const LEAST: u32 = 200;
-const GREATEST: u32 = 1_000;
+/// How many p there are.
+const EVERY_PH: usize = (MOST_PH - LEAST_PH + 1) as usize;
 
 /// What `floor` found before, one place for each p: computed when first
 /// needed and never written down.
-static FOUND: [OnceLock<u64>; (GREATEST - LEAST + 1) as usize] =
-    [const { OnceLock::new() }; (GREATEST - LEAST + 1) as usize];
+static FOUND: [OnceLock<u64>; EVERY_PH] = [const { OnceLock::new() }; EVERY_PH];
 
 impl Ph {
     pub fn new(hundredths: u32) -> Result<Ph, Refusal> {
-        require((LEAST..=GREATEST).contains(&hundredths), PH)?;
+        require((LEAST_PH..=MOST_PH).contains(&hundredths), PH)?;
         Ok(Ph(hundredths))
     }
 
@@ -33,7 +33,7 @@ impl Ph {
 
     /// The floor h of hydrogen, in u.
     pub fn floor(self) -> u64 {
-        *FOUND[(self.0 - LEAST) as usize].get_or_init(|| search_floor(self))
+        *FOUND[(self.0 - LEAST_PH) as usize].get_or_init(|| search_floor(self))
     }
 
     /// 10^(1500 − p), the hundredth power of H.
@@ -105,7 +105,7 @@ mod tests {
 
     #[test]
     fn hydrogen_lies_from_its_floor_to_below_the_next() {
-        for p in LEAST..=GREATEST {
+        for p in LEAST_PH..=MOST_PH {
             let Ok(ph) = Ph::new(p) else { panic!("p {p}") };
             let h = i128::from(ph.floor());
             assert!(ph.hydrogen_is_at_least(h, 1));
@@ -116,7 +116,7 @@ mod tests {
 
     #[test]
     fn ph_has_its_range() {
-        for p in [0, 199, 1_001, u32::MAX] {
+        for p in [0, LEAST_PH - 1, MOST_PH + 1, u32::MAX] {
             assert_eq!(floor(p), Err(PH));
         }
     }

@@ -1,20 +1,7 @@
 //! "Charge and conductance": the table of document 01.
 
-/// The places of the ten readings, "in the order NH4-N, Ca, Mg, Na, K, SO4-S,
-/// NO3-N, Cl, total nitrogen (TN), dissolved organic carbon (DOC)".
-pub const AMMONIUM: usize = 0;
-pub const CALCIUM: usize = 1;
-pub const MAGNESIUM: usize = 2;
-pub const SODIUM: usize = 3;
-pub const POTASSIUM: usize = 4;
-pub const SULPHATE: usize = 5;
-pub const NITRATE: usize = 6;
-pub const CHLORIDE: usize = 7;
-pub const TOTAL_NITROGEN: usize = 8;
-pub const ORGANIC_CARBON: usize = 9;
+use crate::numbers::{ALKALINITY_CHARGE, AMMONIUM, AMOUNT_CHARGE, IONS, SULPHATE};
 
-/// The eight ions are the first eight readings.
-pub const IONS: usize = 8;
 /// "Cat is H plus the next five rows": the first five ions.
 pub const CATIONS: std::ops::Range<usize> = AMMONIUM..SULPHATE;
 /// "An the last four": alkalinity and the other three ions.
@@ -54,10 +41,10 @@ pub const ALKALINITY_CONDUCTANCE: i128 = 445;
 
 /// The charge of an ion in u: a × f × 10^4.
 pub fn charge(ion: usize, amount: u32) -> i128 {
-    i128::from(amount) * TABLE[ion].factor * 10_000
+    i128::from(amount) * TABLE[ion].factor * AMOUNT_CHARGE
 }
 
 /// "Alkalinity, t tenths of a µeq/L, has t × 10^8 u."
 pub fn alkalinity_charge(tenths: u32) -> i128 {
-    i128::from(tenths) * 100_000_000
+    i128::from(tenths) * ALKALINITY_CHARGE
 }

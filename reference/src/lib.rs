@@ -3,7 +3,8 @@
 //!
 //! The modules follow the sections of document 01. Every algorithm is the most
 //! literal one: whole numbers and exact fractions, nothing tabulated beyond
-//! the tables that document 01 prints itself.
+//! the tables that document 01 prints itself. Where words stand, how many there
+//! are and how far values reach is in `numbers` alone.
 
 pub mod batch;
 pub mod big;
@@ -13,6 +14,7 @@ pub mod docket;
 pub mod hydrogen;
 pub mod ions;
 pub mod listing;
+pub mod numbers;
 pub mod readings;
 pub mod record;
 pub mod refusals;

@@ -1,14 +1,13 @@
 //! The listing program: bytes in, text out.
 
-use crate::batch::{answer, ROW};
+use crate::batch::answer;
+use crate::numbers::{COUNT_WORDS, MOST_BYTES, ROW_WORDS, WORD_BYTES};
 use crate::refusals::{Refusal, BATCH_LENGTH, OUTPUT};
 use crate::words::whole_words;
 
 /// "Bytes not a multiple of 4, or over 45,248, give 8 before any other test."
-pub const MOST_BYTES: usize = 45_248;
-
 fn answer_to_bytes(bytes: &[u8]) -> Result<Vec<u32>, Refusal> {
-    if bytes.len() % 4 != 0 || bytes.len() > MOST_BYTES {
+    if bytes.len() % WORD_BYTES != 0 || bytes.len() > MOST_BYTES {
         return Err(BATCH_LENGTH);
     }
     answer(&whole_words(bytes))
@@ -25,9 +24,9 @@ pub fn text(bytes: &[u8]) -> String {
 }
 
 fn lines(words: &[u32]) -> String {
-    let (count, rows) = words.split_at(1);
+    let (count, rows) = words.split_at(COUNT_WORDS);
     let mut text = line(count);
-    for row in rows.chunks(ROW) {
+    for row in rows.chunks(ROW_WORDS) {
         text += &line(row);
     }
     text
@@ -50,8 +49,9 @@ pub fn list(bytes: &[u8], lent: &mut [u8]) -> Result<usize, Refusal> {
 #[cfg(test)]
 mod tests {
     use super::*;
-    use crate::cases::batches::batch;
+    use crate::cases::batches::{batch, charts_counted, samples_counted};
     use crate::cases::bottle::Bottle;
+    use crate::numbers::{MOST_BATCH, MOST_CHARTS, MOST_NUMBER, MOST_SAMPLES, MOST_TEXT};
     use crate::words::to_bytes;
 
     fn printed() -> Vec<u8> {
@@ -67,21 +67,30 @@ mod tests {
     fn lengths_are_tested_first() {
         assert_eq!(text(&[]), "refused 8\n");
         assert_eq!(text(&[11]), "refused 8\n");
-        assert_eq!(text(&to_bytes(&[11])), "refused 9\n");
-        assert_eq!(text(&to_bytes(&[0, 0])), "0\n");
-        assert_eq!(text(&to_bytes(&vec![11; MOST_BYTES / 4])), "refused 9\n");
-        assert_eq!(
-            text(&to_bytes(&vec![11; MOST_BYTES / 4 + 1])),
-            "refused 8\n"
-        );
+        assert_eq!(text(&to_bytes(&samples_counted(0, &[]))), "0\n");
+        let mut bytes = to_bytes(&charts_counted(MOST_CHARTS + 1, &[]));
+        assert_eq!(text(&bytes), "refused 9\n");
+        bytes.resize(WORD_BYTES * MOST_BATCH, 0);
+        assert_eq!(text(&bytes), "refused 9\n");
+        bytes.resize(WORD_BYTES * (MOST_BATCH + 1), 0);
+        assert_eq!(text(&bytes), "refused 8\n");
+    }
+
+    #[test]
+    fn the_longest_text() {
+        let samples = vec![Bottle::printed().number(MOST_NUMBER); MOST_SAMPLES as usize];
+        assert_eq!(text(&to_bytes(&batch(&[], &samples))).len(), MOST_TEXT);
     }
 
     #[test]
     fn the_lent_text() {
-        let mut lent = [b'~'; 16];
-        assert_eq!(list(&printed(), &mut lent[..13]), Err(13));
-        assert_eq!(lent, [b'~'; 16]);
-        assert_eq!(list(&printed(), &mut lent), Ok(14));
-        assert_eq!(&lent, b"1\n7 1 1 1 1 0\n~~");
+        let answer = "1\n7 1 1 1 1 0\n";
+        let before = vec![b'~'; answer.len() + 2];
+        let mut lent = before.clone();
+        let short = &mut lent[..answer.len() - 1];
+        assert_eq!(list(&printed(), short), Err(13));
+        assert_eq!(lent, before);
+        assert_eq!(list(&printed(), &mut lent), Ok(answer.len()));
+        assert_eq!(lent, format!("{answer}~~").as_bytes());
     }
 }

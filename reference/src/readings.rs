@@ -1,6 +1,7 @@
 //! "A reading": missing, measured with its float, or below with its
 //! quantification limit.
 
+use crate::numbers::{MOST_MILLIGRAMS, PER_MILLIGRAM};
 use crate::refusals::{require, Refusal, READING};
 use std::cmp::Ordering;
 
@@ -20,7 +21,7 @@ const LEAST_LIMIT: Exact = Exact {
 
 /// "to 200"
 const GREATEST: Exact = Exact {
-    mantissa: 200,
+    mantissa: MOST_MILLIGRAMS as u128,
     exponent: 0,
 };
 
@@ -71,7 +72,7 @@ impl Exact {
         // and one of 2^100 stands for all the greater ones.
         let places = (-self.exponent).clamp(0, 100);
         let denominator = 1u128 << places;
-        let twice = 2 * 1_000 * self.mantissa + denominator;
+        let twice = 2 * u128::from(PER_MILLIGRAM) * self.mantissa + denominator;
         (twice / (2 * denominator)) as u32
     }
 }
@@ -172,6 +173,7 @@ impl Reading {
 #[cfg(test)]
 mod tests {
     use super::*;
+    use crate::numbers::{LEAST_LIMIT_BITS, MOST_AMOUNT, MOST_BELOW, MOST_BITS};
 
     fn measured_amount(bits: u32) -> Result<Option<u32>, Refusal> {
         Reading::measured(bits).map(Reading::amount)
@@ -205,11 +207,11 @@ mod tests {
         assert_eq!(measured_amount(0), Ok(Some(0)));
         assert_eq!(measured_amount(1), Ok(Some(0)));
         assert_eq!(measured_amount(0x0080_0000), Ok(Some(0)));
-        assert_eq!(measured_amount(200f32.to_bits()), Ok(Some(200_000)));
-        assert_eq!(measured_amount(200f32.to_bits() + 1), Err(READING));
-        assert_eq!(below_amount(200f32.to_bits()), Ok(Some(100_000)));
-        assert_eq!(below_amount(0x3A80_0000), Ok(Some(0)));
-        assert_eq!(below_amount(0x3A7F_FFFF), Err(READING));
+        assert_eq!(measured_amount(MOST_BITS), Ok(Some(MOST_AMOUNT)));
+        assert_eq!(measured_amount(MOST_BITS + 1), Err(READING));
+        assert_eq!(below_amount(MOST_BITS), Ok(Some(MOST_BELOW)));
+        assert_eq!(below_amount(LEAST_LIMIT_BITS), Ok(Some(0)));
+        assert_eq!(below_amount(LEAST_LIMIT_BITS - 1), Err(READING));
         assert_eq!(below_amount(0), Err(READING));
     }
 
@@ -252,7 +254,7 @@ mod tests {
 
     #[test]
     fn words_come_back() {
-        for (mark, bits) in [(0, 0), (1, 0), (1, 0x3F80_0000), (2, 0x3A80_0000)] {
+        for (mark, bits) in [(0, 0), (1, 0), (1, 0x3F80_0000), (2, LEAST_LIMIT_BITS)] {
             let words = Reading::from_words(mark, bits).map(Reading::words);
             assert_eq!(words, Ok((mark, bits)));
         }

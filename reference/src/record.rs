@@ -1,27 +1,17 @@
-//! "A record": 25 words of 32 bits.
+//! "A record": its words and their tests.
 
 use crate::hydrogen::Ph;
-use crate::ions::IONS;
+use crate::numbers::{
+    bits_of, mark_of, reading_of, ALKALINITY, CONDUCTIVITY, ELEMENTS, IONS, KIND, KINDS,
+    MOST_ALKALINITY, MOST_CONDUCTIVITY, MOST_NUMBER, NUMBER, PH, READINGS, RECORD_WORDS, SAMPLE,
+};
 use crate::readings::Reading;
 use crate::refusals::{self, require, Refusal};
-
-/// "25 words of 32 bits, lent as a slice of words."
-pub const LENGTH: usize = 25;
-/// "words 5 to 24: ten readings of two words."
-pub const FIRST_READING: usize = 5;
-pub const READINGS: usize = 10;
-
-/// "1 wet-only, 2 bulk open field, 3 throughfall, 4 stemflow, 5 runoff, 6 soil water."
-pub const WET_ONLY: u32 = 1;
-pub const BULK: u32 = 2;
-pub const STEMFLOW: u32 = 4;
-pub const RUNOFF: u32 = 5;
-pub const SOIL_WATER: u32 = 6;
 
 /// A record that its own tests let pass.
 #[derive(Clone, Debug, PartialEq, Eq)]
 pub struct Record {
-    pub words: [u32; LENGTH],
+    pub words: [u32; RECORD_WORDS],
     pub number: u32,
     pub kind: u32,
     pub ph: Ph,
@@ -35,16 +25,19 @@ pub struct Record {
 impl Record {
     /// "A record alone is tested 1 to 7."
     pub fn read(slice: &[u32]) -> Result<Record, Refusal> {
-        let words: [u32; LENGTH] = slice.try_into().map_err(|_| refusals::RECORD_LENGTH)?;
-        let [number, kind, p, conductivity, alkalinity, ..] = words;
-        require((1..=999_999).contains(&number), refusals::SAMPLE_NUMBER)?;
-        require((WET_ONLY..=SOIL_WATER).contains(&kind), refusals::KIND)?;
-        let ph = Ph::new(p)?;
+        let words: [u32; RECORD_WORDS] = slice.try_into().map_err(|_| refusals::RECORD_LENGTH)?;
+        let number = words[NUMBER];
+        require((1..=MOST_NUMBER).contains(&number), refusals::SAMPLE_NUMBER)?;
+        let kind = words[KIND];
+        require(KINDS.contains(&kind), refusals::KIND)?;
+        let ph = Ph::new(words[PH])?;
+        let conductivity = words[CONDUCTIVITY];
         require(
-            (1..=100_000).contains(&conductivity),
+            (1..=MOST_CONDUCTIVITY).contains(&conductivity),
             refusals::CONDUCTIVITY,
         )?;
-        require(alkalinity <= 200_000, refusals::ALKALINITY)?;
+        let alkalinity = words[ALKALINITY];
+        require(alkalinity <= MOST_ALKALINITY, refusals::ALKALINITY)?;
         let readings = read_readings(&words)?;
         Ok(Record {
             words,
@@ -72,7 +65,7 @@ impl Record {
     }
 }
 
-fn read_readings(words: &[u32; LENGTH]) -> Result<[Reading; READINGS], Refusal> {
+fn read_readings(words: &[u32; RECORD_WORDS]) -> Result<[Reading; READINGS], Refusal> {
     let mut readings = [Reading::Missing; READINGS];
     for (place, reading) in readings.iter_mut().enumerate() {
         *reading = read_reading(words, place)?;
@@ -81,40 +74,41 @@ fn read_readings(words: &[u32; LENGTH]) -> Result<[Reading; READINGS], Refusal> 
 }
 
 /// The reading at a place, whatever else the words hold.
-pub fn read_reading(words: &[u32; LENGTH], place: usize) -> Result<Reading, Refusal> {
-    let mark = FIRST_READING + 2 * place;
-    Reading::from_words(words[mark], words[mark + 1])
+pub fn read_reading(words: &[u32; RECORD_WORDS], place: usize) -> Result<Reading, Refusal> {
+    Reading::from_words(words[mark_of(place)], words[bits_of(place)])
 }
 
-/// Whether the slice is 25 words, the element 1 to 10, and that reading of it
-/// a reading that isn't missing.
+/// Whether the slice is as long as a record, the element in its range, and that
+/// reading of it a reading that isn't missing.
 pub fn is_present(slice: &[u32], element: u32) -> bool {
-    let Ok(words) = <&[u32; LENGTH]>::try_from(slice) else {
+    let Ok(words) = <&[u32; RECORD_WORDS]>::try_from(slice) else {
         return false;
     };
-    let in_range = (1..=READINGS as u32).contains(&element);
-    in_range && read_reading(words, element as usize - 1).is_ok_and(|reading| !reading.is_missing())
+    let is_there = |reading: Reading| !reading.is_missing();
+    ELEMENTS.contains(&element) && read_reading(words, reading_of(element)).is_ok_and(is_there)
 }
 
-/// What refusal 12 compares: whether both slices are 25 words with the same
-/// number and the same kind.
+/// What refusal 12 compares: whether both slices are as long as a record, with
+/// the same number and the same kind.
 pub fn is_same_sample(first: &[u32], second: &[u32]) -> bool {
-    first.len() == LENGTH && second.len() == LENGTH && first[..2] == second[..2]
+    let are_whole = first.len() == RECORD_WORDS && second.len() == RECORD_WORDS;
+    are_whole && first[SAMPLE] == second[SAMPLE]
 }
 
 #[cfg(test)]
 mod tests {
     use super::*;
     use crate::cases::bottle::Bottle;
+    use crate::numbers::{AMMONIUM, LEAST_PH, MOST_PH, SOIL_WATER, WET_ONLY};
 
     /// One fault for each refusal of a record: the word and what it becomes.
     const FAULTS: [(usize, u32, Refusal); 6] = [
-        (0, 1_000_000, 2),
-        (1, 7, 3),
-        (2, 199, 4),
-        (3, 0, 5),
-        (4, 200_001, 6),
-        (5, 3, 7),
+        (NUMBER, MOST_NUMBER + 1, 2),
+        (KIND, SOIL_WATER + 1, 3),
+        (PH, LEAST_PH - 1, 4),
+        (CONDUCTIVITY, 0, 5),
+        (ALKALINITY, MOST_ALKALINITY + 1, 6),
+        (mark_of(AMMONIUM), 3, 7),
     ];
 
     #[test]
@@ -140,11 +134,11 @@ mod tests {
     #[test]
     fn ends_of_the_ranges_are_taken() {
         for (word, least, greatest) in [
-            (0, 1, 999_999),
-            (1, 1, 6),
-            (2, 200, 1_000),
-            (3, 1, 100_000),
-            (4, 0, 200_000),
+            (NUMBER, 1, MOST_NUMBER),
+            (KIND, WET_ONLY, SOIL_WATER),
+            (PH, LEAST_PH, MOST_PH),
+            (CONDUCTIVITY, 1, MOST_CONDUCTIVITY),
+            (ALKALINITY, 0, MOST_ALKALINITY),
         ] {
             for value in [least, greatest] {
                 let mut words = Bottle::printed().words().to_vec();

@@ -2,17 +2,15 @@
 
 use crate::docket::{agree, PlainDocket};
 use crate::hydrogen::Ph;
+use crate::numbers::{RECORD_WORDS, REPLAY_ROOM, REPLAY_TEXT, REPLAY_WORDS, WORD_BYTES};
 use crate::readings::Reading;
-use crate::record::{is_present, is_same_sample, Record, LENGTH};
+use crate::record::{is_present, is_same_sample, Record};
 use crate::refusals::{self, Refusal};
 use crate::words::whole_words;
 use crate::{batch, charts, checks, listing};
 
 /// The line of a case, or nothing where the case is malformed.
 type Line = Option<String>;
-
-/// "a count above 1,024" is malformed.
-pub const MOST_WORDS: usize = 1_024;
 
 /// One line of text per case. "At a case that is malformed it prints the line
 /// `malformed` and stops."
@@ -28,18 +26,19 @@ pub fn text(bytes: &[u8]) -> String {
         text += "\n";
         rest = after;
     }
-    if bytes.len() % 4 != 0 {
+    if bytes.len() % WORD_BYTES != 0 {
         // The input ends in the middle of a case, in the middle of a word.
         text += "malformed\n";
     }
     text
 }
 
-/// "A case is the number of a call, a count, and that many words."
+/// "A case is the number of a call, a count, and that many words"; "a count
+/// above 1,024" is malformed.
 fn next_case(input: &[u32]) -> Option<(String, &[u32])> {
     let (&[call, count], rest) = input.split_first_chunk()?;
     let count = count as usize;
-    if count > MOST_WORDS {
+    if count > REPLAY_WORDS {
         return None;
     }
     let (words, after) = rest.split_at_checked(count)?;
@@ -185,9 +184,9 @@ fn offers(words: &[u32]) -> String {
 }
 
 /// The lent words of a call before it.
-fn lent_words(room: u32, most: u32) -> Option<Vec<u32>> {
+fn lent_words(room: u32) -> Option<Vec<u32>> {
     let old = |index| 900_000_000 + index;
-    (room <= most).then(|| (0..room).map(old).collect())
+    (room <= REPLAY_ROOM).then(|| (0..room).map(old).collect())
 }
 
 /// The line of a call with lent output: its answer, then what was lent.
@@ -203,7 +202,7 @@ fn lent_line<T: std::fmt::Display>(
 fn signals(words: &[u32]) -> Line {
     let (&[setup_count, room], values) = words.split_first_chunk()?;
     let (setup, later) = values.split_at_checked(setup_count as usize)?;
-    let mut lent = lent_words(room, 256)?;
+    let mut lent = lent_words(room)?;
     let result = charts::signals(setup, later, &mut lent);
     Some(lent_line("signals", result, &lent))
 }
@@ -218,7 +217,7 @@ fn last_signal(words: &[u32]) -> Line {
 /// Call 12: a batch.
 fn judged_batch(words: &[u32]) -> Line {
     let (&room, batch) = words.split_first()?;
-    let mut lent = lent_words(room, 256)?;
+    let mut lent = lent_words(room)?;
     let result = batch::judge(batch, &mut lent);
     Some(lent_line("written", result, &lent))
 }
@@ -228,7 +227,7 @@ fn listed(words: &[u32]) -> Line {
     let (&[room, length], rest) = words.split_first_chunk()?;
     let bytes = crate::words::to_bytes(rest);
     let bytes = bytes.get(..length as usize)?;
-    if room > 1_024 {
+    if room > REPLAY_TEXT {
         return None;
     }
     let mut lent = vec![126u8; room as usize];
@@ -253,7 +252,7 @@ fn sample(words: &[u32]) -> Line {
 /// Call 16: records one after another to a fresh docket, and what it holds.
 fn followed(words: &[u32]) -> String {
     let mut docket = PlainDocket::new();
-    for offer in words.chunks(LENGTH) {
+    for offer in words.chunks(RECORD_WORDS) {
         // The answers are call 9's; here only what they leave is printed.
         let _ = docket.offer(offer);
     }
@@ -287,7 +286,7 @@ mod tests {
         for malformed in [
             vec![0, 0],
             vec![17, 0],
-            vec![7, 1_025],
+            vec![7, REPLAY_WORDS as u32 + 1],
             vec![7, 2, 0],
             vec![7],
             vec![1, 0],
@@ -296,10 +295,10 @@ mod tests {
             vec![8, 0],
             vec![8, 1, 1],
             vec![10, 2, 1, 0],
-            vec![10, 2, 0, 257],
-            vec![12, 1, 257],
+            vec![10, 2, 0, REPLAY_ROOM + 1],
+            vec![12, 1, REPLAY_ROOM + 1],
             vec![13, 2, 0, 1],
-            vec![13, 2, 1_025, 0],
+            vec![13, 2, REPLAY_TEXT + 1, 0],
         ] {
             let words = [vec![6, 1, 1], malformed].concat();
             assert_eq!(run(&words), "number 1\nmalformed\n", "{words:?}");

@@ -1,10 +1,11 @@
 //! A batch: charts, then samples.
 
-use super::record::{Record, WORDS};
-use super::{chart, checks, Refusal};
-
-const MOST_CHARTS: u32 = 10;
-const MOST_SAMPLES: u32 = 400;
+use super::record::Record;
+use super::{chart, checks, Floors, Refusal};
+use crate::numbers::{
+    answer_words, CHART_ELEMENT, CHART_HEAD, CHART_LATER, CHART_SETUP, COUNT_WORDS, MOST_CHARTS,
+    MOST_SAMPLES, READINGS, RECORD_WORDS,
+};
 
 fn split(words: &[u32], n: usize) -> Result<(&[u32], &[u32]), Refusal> {
     if words.len() < n {
@@ -14,21 +15,22 @@ fn split(words: &[u32], n: usize) -> Result<(&[u32], &[u32]), Refusal> {
 }
 
 fn count(words: &[u32], most: u32) -> Result<(u32, &[u32]), Refusal> {
-    let (first, rest) = split(words, 1)?;
+    let (first, rest) = split(words, COUNT_WORDS)?;
     if first[0] > most {
         return Err(9);
     }
     Ok((first[0], rest))
 }
 
-pub fn judge_batch(words: &[u32], out: &mut [u32], floors: &[u64; 801]) -> Result<usize, Refusal> {
+pub fn judge_batch(words: &[u32], out: &mut [u32], floors: &Floors) -> Result<usize, Refusal> {
     let (charts, mut rest) = count(words, MOST_CHARTS)?;
-    let mut seen = [false; 11];
+    let mut seen = [false; READINGS + 1];
     let mut signalled = Vec::new();
     for _ in 0..charts {
-        let (head, values) = split(rest, 3)?;
-        let (element, setup, later) = (head[0] as usize, head[1] as usize, head[2] as usize);
-        if !(1..=10).contains(&element) || seen[element] {
+        let (head, values) = split(rest, CHART_HEAD)?;
+        let element = head[CHART_ELEMENT] as usize;
+        let (setup, later) = (head[CHART_SETUP] as usize, head[CHART_LATER] as usize);
+        if !(1..=READINGS).contains(&element) || seen[element] {
             return Err(10);
         }
         seen[element] = true;
@@ -41,11 +43,11 @@ pub fn judge_batch(words: &[u32], out: &mut [u32], floors: &[u64; 801]) -> Resul
         }
         rest = after;
     }
-    let (samples, mut rest) = count(rest, MOST_SAMPLES)?;
-    let mut answer = Vec::with_capacity(1 + 6 * samples as usize);
+    let (samples, mut rest) = count(rest, MOST_SAMPLES as u32)?;
+    let mut answer = Vec::with_capacity(answer_words(samples as usize));
     answer.push(samples);
     for _ in 0..samples {
-        let (words, after) = split(rest, WORDS)?;
+        let (words, after) = split(rest, RECORD_WORDS)?;
         let record = Record::read(words)?;
         answer.push(record.number);
         answer.extend(checks::verdicts(&record, floors));

@@ -1,8 +1,7 @@
 //! Control charts.
 
 use super::Refusal;
-
-const MOST_VALUE: u32 = 200_000;
+use crate::numbers::{LEAST_SETUP, MOST_LATER, MOST_SETUP, MOST_VALUE};
 
 struct Setup {
     n: i64,
@@ -68,7 +67,7 @@ impl Setup {
 }
 
 pub fn counts_fit(setup: usize, later: usize) -> bool {
-    (10..=64).contains(&setup) && later <= 64
+    (LEAST_SETUP..=MOST_SETUP).contains(&setup) && later <= MOST_LATER
 }
 
 fn tested(setup: &[u32], later: &[u32]) -> Result<(), Refusal> {

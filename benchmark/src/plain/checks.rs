@@ -1,7 +1,11 @@
 //! The four checks.
 
-use super::record::{Record, CL, DOC, IONS, NA, NH4, NO3, TN};
-use super::Refusal;
+use super::record::Record;
+use super::{Floors, Refusal};
+use crate::numbers::{
+    ALKALINITY_CHARGE, AMOUNT_CHARGE, CARBON_LINE, CHECKS, CL, DOC, IONS, LEAST_PH, NA, NH4, NO3,
+    TN,
+};
 
 const NOT_APPLICABLE: u32 = 0;
 const WITHIN: u32 = 1;
@@ -23,11 +27,11 @@ struct Sums {
 }
 
 fn sums(record: &Record, ions: &[u64; IONS]) -> Sums {
-    let alkalinity = record.alkalinity * 100_000_000;
+    let alkalinity = record.alkalinity * ALKALINITY_CHARGE;
     let mut charges = [0; IONS];
     let mut conductivity = alkalinity * ALKALINITY_CONDUCTANCE;
     for (i, charge) in charges.iter_mut().enumerate() {
-        *charge = ions[i] * FACTORS[i] * 10_000;
+        *charge = ions[i] * FACTORS[i] * AMOUNT_CHARGE;
         conductivity += *charge * CONDUCTANCES[i];
     }
     Sums {
@@ -68,7 +72,7 @@ fn decide(
 fn ion_balance(record: &Record, known: Option<&Sums>, hydrogen: &Hydrogen) -> u32 {
     let applies = match record.kind {
         1 | 2 => true,
-        5 => matches!(record.amounts[DOC], Some(carbon) if carbon < 5_000),
+        5 => matches!(record.amounts[DOC], Some(carbon) if carbon < CARBON_LINE),
         _ => false,
     };
     if !applies {
@@ -134,9 +138,9 @@ fn nitrogen(record: &Record) -> u32 {
     }
 }
 
-pub fn verdicts(record: &Record, floors: &[u64; 801]) -> [u32; 4] {
+pub fn verdicts(record: &Record, floors: &Floors) -> [u32; CHECKS] {
     let hydrogen = Hydrogen {
-        floor: floors[record.p as usize - 200],
+        floor: floors[(record.p - LEAST_PH) as usize],
         gap: u64::from(record.p % 100 != 0),
     };
     let known = record.ions().map(|ions| sums(record, &ions));
@@ -148,6 +152,6 @@ pub fn verdicts(record: &Record, floors: &[u64; 801]) -> [u32; 4] {
     ]
 }
 
-pub fn judge(words: &[u32], floors: &[u64; 801]) -> Result<[u32; 4], Refusal> {
+pub fn judge(words: &[u32], floors: &Floors) -> Result<[u32; CHECKS], Refusal> {
     Ok(verdicts(&Record::read(words)?, floors))
 }

@@ -1,8 +1,8 @@
 //! The docket.
 
-use super::checks;
-use super::record::{Record, IONS, WORDS};
-use super::Refusal;
+use super::record::Record;
+use super::{checks, Floors, Refusal};
+use crate::numbers::{IONS, RECORD_WORDS};
 
 #[derive(Clone, Copy, PartialEq, Eq)]
 pub enum State {
@@ -15,7 +15,7 @@ pub enum State {
 pub struct Docket {
     pub state: State,
     pub count: u32,
-    pub held: [u32; WORDS],
+    pub held: [u32; RECORD_WORDS],
 }
 
 fn tenth(x: u64, y: u64) -> bool {
@@ -38,11 +38,11 @@ impl Docket {
         Docket {
             state: State::Open,
             count: 0,
-            held: [0; WORDS],
+            held: [0; RECORD_WORDS],
         }
     }
 
-    pub fn offer(&mut self, words: &[u32], floors: &[u64; 801]) -> Result<(), Refusal> {
+    pub fn offer(&mut self, words: &[u32], floors: &Floors) -> Result<(), Refusal> {
         let record = Record::read(words)?;
         if self.state != State::Open || self.count > 2 {
             return Err(11);

@@ -7,5 +7,10 @@ pub mod checks;
 pub mod docket;
 pub mod record;
 
+use crate::numbers::FLOORS;
+
 /// The number of a refusal.
 pub type Refusal = u32;
+
+/// The floors of hydrogen, one for each pH.
+pub type Floors = [u64; FLOORS];

@@ -1,20 +1,11 @@
 //! A record: its fields, its own tests, and its readings as amounts.
 
 use super::Refusal;
-
-pub const WORDS: usize = 25;
-pub const READINGS: usize = 10;
-pub const IONS: usize = 8;
-
-pub const NH4: usize = 0;
-pub const NA: usize = 3;
-pub const NO3: usize = 6;
-pub const CL: usize = 7;
-pub const TN: usize = 8;
-pub const DOC: usize = 9;
-
-const LEAST_LIMIT: u32 = 0x3A80_0000;
-const MOST: u32 = 0x4348_0000;
+use crate::numbers::{
+    ALKALINITY, BITS, CONDUCTIVITY, FIRST_READING, IONS, KIND, KINDS, LEAST_LIMIT, LEAST_PH, MARK,
+    MOST_ALKALINITY, MOST_BITS, MOST_CONDUCTIVITY, MOST_NUMBER, MOST_PH, NUMBER, PER_MILLIGRAM, PH,
+    READINGS, READINGS_END, READING_WORDS, RECORD_WORDS,
+};
 
 /// A record that passed its tests.
 pub struct Record {
@@ -28,11 +19,13 @@ pub struct Record {
 }
 
 fn amount(mark: u32, bits: u32) -> Result<Option<u64>, Refusal> {
+    const WHOLE: f64 = PER_MILLIGRAM as f64;
+    const HALF: f64 = WHOLE / 2.0;
     let value = f64::from(f32::from_bits(bits));
     match mark {
         0 if bits == 0 => Ok(None),
-        1 if bits <= MOST => Ok(Some((value * 1000.0 + 0.5) as u64)),
-        2 if (LEAST_LIMIT..=MOST).contains(&bits) => Ok(Some((value * 500.0 + 0.5) as u64)),
+        1 if bits <= MOST_BITS => Ok(Some((value * WHOLE + 0.5) as u64)),
+        2 if (LEAST_LIMIT..=MOST_BITS).contains(&bits) => Ok(Some((value * HALF + 0.5) as u64)),
         _ => Err(7),
     }
 }
@@ -47,15 +40,16 @@ fn within(x: u32, least: u32, most: u32, refusal: Refusal) -> Result<u32, Refusa
 
 impl Record {
     pub fn read(words: &[u32]) -> Result<Record, Refusal> {
-        let words: &[u32; WORDS] = words.try_into().map_err(|_| 1u32)?;
-        let number = within(words[0], 1, 999_999, 2)?;
-        let kind = within(words[1], 1, 6, 3)?;
-        let p = within(words[2], 200, 1_000, 4)?;
-        let conductivity = u64::from(within(words[3], 1, 100_000, 5)?);
-        let alkalinity = u64::from(within(words[4], 0, 200_000, 6)?);
+        let words: &[u32; RECORD_WORDS] = words.try_into().map_err(|_| 1u32)?;
+        let number = within(words[NUMBER], 1, MOST_NUMBER, 2)?;
+        let kind = within(words[KIND], 1, KINDS, 3)?;
+        let p = within(words[PH], LEAST_PH, MOST_PH, 4)?;
+        let conductivity = u64::from(within(words[CONDUCTIVITY], 1, MOST_CONDUCTIVITY, 5)?);
+        let alkalinity = u64::from(within(words[ALKALINITY], 0, MOST_ALKALINITY, 6)?);
         let mut amounts = [None; READINGS];
-        for (place, pair) in amounts.iter_mut().zip(words[5..].chunks_exact(2)) {
-            *place = amount(pair[0], pair[1])?;
+        let readings = words[FIRST_READING..READINGS_END].chunks_exact(READING_WORDS);
+        for (place, pair) in amounts.iter_mut().zip(readings) {
+            *place = amount(pair[MARK], pair[BITS])?;
         }
         Ok(Record {
             number,

@@ -6,11 +6,11 @@ use crate::canary::Lent;
 use crate::case::{Case, Difference};
 use crate::charts::smaller_charts;
 use crate::library::Library;
+use crate::numbers::{CHART_COUNT, CHART_ELEMENT, CHART_HEAD, CHART_SETUP, RECORD_WORDS};
 use crate::outcome::Outcome;
 use crate::records::{describe_record, smaller_records};
 use crate::shrink::{flatter, shorter, simpler_room, simpler_words, stretches};
 use reference::cases::batches::chart;
-use reference::record::LENGTH;
 use std::ops::Range;
 
 pub struct BatchCase {
@@ -57,7 +57,7 @@ pub fn smaller_batches(words: &[u32]) -> impl Iterator<Item = Vec<u32>> + '_ {
         .sample_count
         .map(|count| without_parts(words, count, &layout.samples))
         .unwrap_or_default();
-    let fewer_charts = without_parts(words, 0, &layout.charts);
+    let fewer_charts = without_parts(words, CHART_COUNT, &layout.charts);
     fewer_samples
         .into_iter()
         .chain(fewer_charts)
@@ -76,21 +76,22 @@ fn replaced(words: &[u32], part: &Range<usize>, by: &[u32]) -> Vec<u32> {
 /// One chart made simpler, its counts with it.
 fn simpler_charts(words: &[u32], charts: Vec<Range<usize>>) -> impl Iterator<Item = Vec<u32>> + '_ {
     charts.into_iter().flat_map(move |part| {
-        let (element, setup_count) = (words[part.start], words[part.start + 1]);
-        let (setup, later) = words[part.start + 3..part.end].split_at(setup_count as usize);
+        let (head, values) = words[part.clone()].split_at(CHART_HEAD);
+        let element = head[CHART_ELEMENT];
+        let (setup, later) = values.split_at(head[CHART_SETUP] as usize);
         smaller_charts(setup, later)
             .map(move |(setup, later)| replaced(words, &part, &chart(element, &setup, &later)))
     })
 }
 
-/// One sample made simpler, of 25 words as before.
+/// One sample made simpler, as long as before.
 fn simpler_samples(
     words: &[u32],
     samples: Vec<Range<usize>>,
 ) -> impl Iterator<Item = Vec<u32>> + '_ {
     samples.into_iter().flat_map(move |part| {
         smaller_records(&words[part.clone()])
-            .filter(|sample| sample.len() == LENGTH)
+            .filter(|sample| sample.len() == RECORD_WORDS)
             .map(move |sample| replaced(words, &part, &sample))
     })
 }

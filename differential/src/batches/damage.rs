@@ -1,8 +1,43 @@
 //! Batches that something happened to.
 
 use super::layout::Layout;
+use crate::numbers::{
+    CHART_ELEMENT, LEAST_SETUP, MOST_CHARTS, MOST_ELEMENT, MOST_SAMPLES, MOST_SETUP, MOST_VALUE,
+    RECORD_WORDS,
+};
 use crate::random::Draw;
 use reference::cases::generator::Generator;
+
+/// The greatest counts of charts and of a chart's values.
+const CHARTS: u32 = MOST_CHARTS as u32;
+const VALUES: u32 = MOST_SETUP as u32;
+
+/// Ends of the counts' ranges, and beyond them.
+const COUNTS: [u32; 8] = [
+    LEAST_SETUP as u32 - 1,
+    CHARTS,
+    CHARTS + 1,
+    VALUES,
+    VALUES + 1,
+    MOST_SAMPLES,
+    MOST_SAMPLES + 1,
+    u32::MAX,
+];
+
+/// Ends of the ranges of any word of a batch, and beyond them.
+const WORDS: [u32; 11] = [
+    0,
+    1,
+    CHARTS,
+    CHARTS + 1,
+    VALUES,
+    VALUES + 1,
+    MOST_SAMPLES,
+    MOST_SAMPLES + 1,
+    MOST_VALUE,
+    MOST_VALUE + 1,
+    u32::MAX,
+];
 
 /// One damage anywhere in a batch's words.
 pub fn damage(generator: &mut Generator, words: &mut Vec<u32>) {
@@ -18,15 +53,14 @@ pub fn damage(generator: &mut Generator, words: &mut Vec<u32>) {
 }
 
 fn extend(generator: &mut Generator, words: &mut Vec<u32>) {
-    let length = generator.pick(&[1, 1, 2, 25, 26]);
+    let length = generator.pick(&[1, 1, 2, RECORD_WORDS, RECORD_WORDS + 1]);
     let word = generator.pick(&[0, 1, 7]);
     words.extend(vec![word; length]);
 }
 
 fn any_word(generator: &mut Generator, words: &mut [u32]) {
     if !words.is_empty() {
-        let values = [0, 1, 10, 11, 64, 65, 400, 401, 200_000, 200_001, u32::MAX];
-        words[generator.place(words.len())] = generator.pick(&values);
+        words[generator.place(words.len())] = generator.pick(&WORDS);
     }
 }
 
@@ -36,11 +70,11 @@ fn repeat_an_element(generator: &mut Generator, words: &mut [u32]) {
     if charts.is_empty() {
         return;
     }
-    let from = charts[generator.place(charts.len())].start;
-    let to = charts[generator.place(charts.len())].start;
+    let mut element = || charts[generator.place(charts.len())].start + CHART_ELEMENT;
+    let (from, to) = (element(), element());
     words[to] = match generator.below(4) {
         0 => 0,
-        1 => 11,
+        1 => MOST_ELEMENT + 1,
         _ => words[from],
     };
 }
@@ -56,7 +90,7 @@ fn change_a_count(generator: &mut Generator, words: &mut [u32]) {
     words[place] = match generator.below(4) {
         0 => words[place].wrapping_add(1),
         1 => words[place].wrapping_sub(1),
-        2 => generator.pick(&[9, 10, 11, 64, 65, 400, 401, u32::MAX]),
+        2 => generator.pick(&COUNTS),
         _ => generator.of_any_size(500),
     };
 }

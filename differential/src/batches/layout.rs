@@ -1,6 +1,8 @@
 //! Where the parts of a batch stand, as far as its counts can be believed.
 
-use reference::record::LENGTH;
+use crate::numbers::{
+    CHART_COUNT, CHART_HEAD, CHART_LATER, CHART_SETUP, COUNT_WORDS, FIRST_CHART, RECORD_WORDS,
+};
 use std::ops::Range;
 
 #[derive(Default)]
@@ -24,13 +26,14 @@ impl Layout {
 
     /// Nothing where the words end before a part does.
     fn find(&mut self, words: &[u32]) -> Option<()> {
-        let charts = *words.first()?;
-        self.counts.push(0);
-        let mut place = 1;
+        let charts = *words.get(CHART_COUNT)?;
+        self.counts.push(CHART_COUNT);
+        let mut place = FIRST_CHART;
         for _ in 0..charts {
-            let [setup, later] = [*words.get(place + 1)?, *words.get(place + 2)?];
-            self.counts.extend([place + 1, place + 2]);
-            let end = place + 3 + setup as usize + later as usize;
+            let counts = [place + CHART_SETUP, place + CHART_LATER];
+            let [setup, later] = [*words.get(counts[0])?, *words.get(counts[1])?];
+            self.counts.extend(counts);
+            let end = place + CHART_HEAD + setup as usize + later as usize;
             words.get(place..end)?;
             self.charts.push(place..end);
             place = end;
@@ -38,11 +41,12 @@ impl Layout {
         let samples = *words.get(place)?;
         self.counts.push(place);
         self.sample_count = Some(place);
-        place += 1;
+        place += COUNT_WORDS;
         for _ in 0..samples {
-            words.get(place..place + LENGTH)?;
-            self.samples.push(place..place + LENGTH);
-            place += LENGTH;
+            let end = place + RECORD_WORDS;
+            words.get(place..end)?;
+            self.samples.push(place..end);
+            place = end;
         }
         Some(())
     }
@@ -55,16 +59,26 @@ mod tests {
 
     #[test]
     fn the_parts_of_a_small_batch() {
+        // Charts of 10 + 2 and 10 + 1 values, and two samples.
+        let first = FIRST_CHART;
+        let second = first + CHART_HEAD + 12;
+        let count = second + CHART_HEAD + 11;
+        let sample = count + COUNT_WORDS;
+        let end = sample + RECORD_WORDS;
         let layout = Layout::of(&small());
-        assert_eq!(layout.charts, [1..16, 16..30]);
-        assert_eq!(layout.sample_count, Some(30));
-        assert_eq!(layout.samples, [31..56, 56..81]);
-        assert_eq!(layout.counts, [0, 2, 3, 17, 18, 30]);
+        assert_eq!(layout.charts, [first..second, second..count]);
+        assert_eq!(layout.sample_count, Some(count));
+        assert_eq!(layout.samples, [sample..end, end..end + RECORD_WORDS]);
+        assert_eq!(end + RECORD_WORDS, small().len());
+        let of_charts = [first, second].map(|chart| [chart + CHART_SETUP, chart + CHART_LATER]);
+        let counts = [vec![CHART_COUNT], of_charts.concat(), vec![count]];
+        assert_eq!(layout.counts, counts.concat());
     }
 
     #[test]
     fn a_batch_that_ends_early_has_what_came_before() {
-        let layout = Layout::of(&small()[..57]);
+        let small = small();
+        let layout = Layout::of(&small[..small.len() - 1]);
         assert_eq!((layout.charts.len(), layout.samples.len()), (2, 1));
         assert!(Layout::of(&[]).counts.is_empty());
         assert!(Layout::of(&[u32::MAX, 1, u32::MAX, u32::MAX])

@@ -5,11 +5,11 @@ use crate::answers;
 use crate::canary::Lent;
 use crate::case::{Case, Difference};
 use crate::library::Library;
+use crate::numbers::{MOST_BYTES, WORD_BYTES};
 use crate::outcome::Outcome;
 use crate::random::Draw;
 use crate::shrink::simpler_room;
 use reference::cases::generator::Generator;
-use reference::listing::MOST_BYTES;
 use reference::words::{to_bytes, whole_words};
 
 /// What stands in the length before the call; no text is so long.
@@ -25,7 +25,7 @@ pub struct ListCase {
 impl ListCase {
     pub fn new(bytes: &[u8], room: usize) -> ListCase {
         let words = whole_words(bytes);
-        let rest = bytes[4 * words.len()..].to_vec();
+        let rest = bytes[WORD_BYTES * words.len()..].to_vec();
         ListCase { words, rest, room }
     }
 
@@ -49,8 +49,8 @@ impl ListCase {
 /// the listing takes; mostly left as they are.
 pub fn damaged_bytes(generator: &mut Generator, mut bytes: Vec<u8>) -> Vec<u8> {
     match generator.below(16) {
-        0 => bytes.truncate(bytes.len().saturating_sub(generator.place(4))),
-        1 => bytes.extend(vec![0; generator.place(4)]),
+        0 => bytes.truncate(bytes.len().saturating_sub(generator.place(WORD_BYTES))),
+        1 => bytes.extend(vec![0; generator.place(WORD_BYTES)]),
         2 => bytes.resize(generator.about(MOST_BYTES, 6), 0),
         3 => bytes.truncate(generator.place(bytes.len() + 1)),
         _ => {}

@@ -8,10 +8,12 @@ mod listing;
 use crate::bottles::any_bottle;
 use crate::case::{Mismatch, Run};
 use crate::charts::Chart;
+use crate::numbers::{
+    answer_words, MOST_CHARTS, MOST_ELEMENT, MOST_LATER, MOST_SAMPLES, MOST_SETUP, RECORD_WORDS,
+};
 use crate::random::Draw;
 use case::BatchCase;
 use listing::ListCase;
-use reference::batch::{MOST_SAMPLES, ROW};
 use reference::cases::batches::{batch, chart};
 use reference::cases::bottle::Bottle;
 use reference::cases::generator::Generator;
@@ -19,7 +21,7 @@ use reference::cases::greatest_batch::peltquarry_input;
 use reference::words::{to_bytes, whole_words};
 
 const DRAWN: u32 = 150_000;
-/// Batches of ten full charts and 400 samples, half of them damaged.
+/// Batches at their greatest, half of them damaged.
 const GREATEST: u32 = 100;
 
 pub fn run(run: &mut Run) -> Result<(), Mismatch> {
@@ -55,7 +57,7 @@ fn check(run: &mut Run, words: Vec<u32>) -> Result<(), Mismatch> {
 fn answer_length(words: &[u32]) -> usize {
     match crate::answers::batch(words) {
         Ok(answer) => answer.len(),
-        Err(_) => 1 + ROW * (words.len() / 25),
+        Err(_) => answer_words(words.len() / RECORD_WORDS),
     }
 }
 
@@ -71,11 +73,9 @@ fn room_about(generator: &mut Generator, exact: usize) -> usize {
 }
 
 fn drawn(generator: &mut Generator) -> Vec<u32> {
-    let charts = generator.pick(&[0, 0, 1, 1, 2, 3, 10]);
+    let charts = generator.pick(&[0, 0, 1, 1, 2, 3, MOST_CHARTS]);
     let samples = generator.pick(&[0, 1, 1, 2, 2, 3, 5, 12]);
-    let mut elements: Vec<u32> = (1..=10).collect();
-    generator.shuffle(&mut elements);
-    let charts: Vec<Vec<u32>> = elements[..charts]
+    let charts: Vec<Vec<u32>> = elements(generator)[..charts]
         .iter()
         .map(|&element| chart_words(generator, element))
         .collect();
@@ -88,15 +88,24 @@ fn chart_words(generator: &mut Generator, element: u32) -> Vec<u32> {
     chart(element, &setup, &later)
 }
 
-/// Ten charts of 64 + 64 values and 400 samples.
-fn greatest(generator: &mut Generator) -> Vec<u32> {
-    let mut elements: Vec<u32> = (1..=10).collect();
+/// All elements in any order.
+fn elements(generator: &mut Generator) -> Vec<u32> {
+    let mut elements: Vec<u32> = (1..=MOST_ELEMENT).collect();
     generator.shuffle(&mut elements);
-    let mut values =
-        |spread| -> Vec<u32> { (0..64).map(|_| 3_000 + generator.below(spread)).collect() };
+    elements
+}
+
+/// As many charts, values and samples as there may be.
+fn greatest(generator: &mut Generator) -> Vec<u32> {
+    let elements = elements(generator);
+    let mut values = |count: usize, spread: u32| -> Vec<u32> {
+        let value = |_| 3_000 + generator.below(spread);
+        (0..count).map(value).collect()
+    };
     let charts: Vec<Vec<u32>> = elements
         .into_iter()
-        .map(|element| chart(element, &values(300), &values(340)))
+        .take(MOST_CHARTS)
+        .map(|element| chart(element, &values(MOST_SETUP, 300), &values(MOST_LATER, 340)))
         .collect();
     let samples: Vec<Bottle> = (0..MOST_SAMPLES).map(|_| any_bottle(generator)).collect();
     batch(&charts, &samples)
@@ -105,6 +114,7 @@ fn greatest(generator: &mut Generator) -> Vec<u32> {
 #[cfg(test)]
 mod tests {
     use super::*;
+    use crate::numbers::{COUNT_WORDS, ROW_FLAG, ROW_WORDS};
 
     #[test]
     fn every_refusal_of_a_batch_and_its_answer_are_common() {
@@ -128,8 +138,8 @@ mod tests {
         let mut times = [0; 2];
         for answer in (0..1_000).filter_map(|_| crate::answers::batch(&drawn(&mut generator)).ok())
         {
-            for row in answer[1..].chunks(ROW) {
-                times[row[5] as usize] += 1;
+            for row in answer[COUNT_WORDS..].chunks(ROW_WORDS) {
+                times[row[ROW_FLAG] as usize] += 1;
             }
         }
         assert!(times.iter().all(|&times| times > 100), "{times:?}");

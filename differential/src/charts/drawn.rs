@@ -1,9 +1,8 @@
 //! Charts drawn so that each rule holds often and fails narrowly.
 
+use crate::numbers::{LEAST_SETUP, MOST_LATER, MOST_SETUP, MOST_VALUE};
 use crate::random::Draw;
 use reference::cases::generator::Generator;
-
-const MOST_VALUE: u32 = 200_000;
 
 pub struct Chart {
     pub setup: Vec<u32>,
@@ -27,7 +26,7 @@ impl Chart {
             _ => exact_setup(generator),
         };
         let length = match generator.below(10) {
-            0 => generator.pick(&[0, 1, 64]),
+            0 => generator.pick(&[0, 1, MOST_LATER as u32]),
             _ => generator.between(2, 20),
         };
         let mut later = match generator.below(4) {
@@ -48,14 +47,21 @@ impl Chart {
     pub fn damage(&mut self, generator: &mut Generator) {
         let Chart { setup, later } = self;
         match generator.below(6) {
-            0 => setup.truncate(generator.place(11)),
-            1 => setup.resize(generator.pick(&[64, 65, 66, 130]), 1_000),
-            2 => later.resize(generator.pick(&[63, 64, 65, 130]), 1_000),
+            0 => setup.truncate(generator.place(LEAST_SETUP + 1)),
+            1 => {
+                let lengths = [MOST_SETUP, MOST_SETUP + 1, MOST_SETUP + 2, 130];
+                setup.resize(generator.pick(&lengths), 1_000);
+            }
+            2 => {
+                let lengths = [MOST_LATER - 1, MOST_LATER, MOST_LATER + 1, 130];
+                later.resize(generator.pick(&lengths), 1_000);
+            }
             3 => generator.flip_bit(setup),
             4 => generator.flip_bit(later),
             _ => {
                 let values = if generator.once_in(2) { setup } else { later };
-                let value = generator.pick(&[0, 199_999, 200_000, 200_001, u32::MAX]);
+                let ends = [0, MOST_VALUE - 1, MOST_VALUE, MOST_VALUE + 1, u32::MAX];
+                let value = generator.pick(&ends);
                 if !values.is_empty() {
                     let place = generator.place(values.len());
                     values[place] = value;
@@ -65,11 +71,16 @@ impl Chart {
     }
 }
 
+/// How many setup values there are, any number in its range.
+fn setup_count(generator: &mut Generator) -> u32 {
+    generator.between(LEAST_SETUP as u32, MOST_SETUP as u32)
+}
+
 /// No variance: every value off the mean is beyond.
 fn flat_setup(generator: &mut Generator) -> Setup {
     let mean = generator.of_any_size(MOST_VALUE);
     Setup {
-        values: vec![mean; generator.between(10, 64) as usize],
+        values: vec![mean; setup_count(generator) as usize],
         mean,
         deviation: generator.below(2),
     }
@@ -78,7 +89,7 @@ fn flat_setup(generator: &mut Generator) -> Setup {
 fn scattered_setup(generator: &mut Generator) -> Setup {
     let least = generator.of_any_size(MOST_VALUE - 1);
     let most = (least + generator.of_any_size(MOST_VALUE)).min(MOST_VALUE);
-    let n = generator.between(10, 64);
+    let n = setup_count(generator);
     let values: Vec<u32> = (0..n).map(|_| generator.between(least, most)).collect();
     Setup {
         mean: values.iter().sum::<u32>() / n,
@@ -90,7 +101,7 @@ fn scattered_setup(generator: &mut Generator) -> Setup {
 /// A mean that isn't whole: its two neighbours are above and below it.
 fn setup_of_halves(generator: &mut Generator) -> Setup {
     let mean = 10 + generator.of_any_size(MOST_VALUE - 20);
-    let pairs = generator.between(5, 32) as usize;
+    let pairs = generator.between(LEAST_SETUP as u32 / 2, MOST_SETUP as u32 / 2) as usize;
     Setup {
         values: [mean, mean + 1].repeat(pairs),
         mean,
@@ -101,7 +112,7 @@ fn setup_of_halves(generator: &mut Generator) -> Setup {
 /// A setup whose mean and deviation are whole: pairs at mean ± a. With all
 /// squares of a summing up to 2 × (n − 1) × e², the deviation is 2 × e exactly.
 fn exact_setup(generator: &mut Generator) -> Setup {
-    let n = generator.between(10, 64);
+    let n = setup_count(generator);
     let e = 1 + generator.of_any_size(2_000);
     // No a is above 11, and later values reach out by 8 × e and one.
     let mean = generator.between(12 * e, MOST_VALUE - 12 * e);

@@ -7,13 +7,22 @@ pub use case::smaller_charts;
 pub use drawn::Chart;
 
 use crate::case::{Mismatch, Run};
+use crate::numbers::{LEAST_SETUP, MOST_LATER, MOST_SETUP};
 use crate::random::Draw;
 use case::ChartCase;
 
 const DRAWN: u32 = 1_000_000;
 /// Edges of the counts: each setup length with each later length.
-const SETUP_LENGTHS: [usize; 7] = [0, 1, 9, 10, 11, 64, 65];
-const LATER_LENGTHS: [usize; 8] = [0, 1, 2, 6, 7, 63, 64, 65];
+const SETUP_LENGTHS: [usize; 7] = [
+    0,
+    1,
+    LEAST_SETUP - 1,
+    LEAST_SETUP,
+    LEAST_SETUP + 1,
+    MOST_SETUP,
+    MOST_SETUP + 1,
+];
+const LATER_LENGTHS: [usize; 8] = [0, 1, 2, 6, 7, MOST_LATER - 1, MOST_LATER, MOST_LATER + 1];
 
 pub fn run(run: &mut Run) -> Result<(), Mismatch> {
     every_length(run)?;

@@ -1,9 +1,10 @@
 //! A list of offers, compared with the plain docket at every step.
 
-use crate::answers::{docket_words, DOCKET_WORDS};
+use crate::answers::docket_words;
 use crate::canary::Lent;
 use crate::case::{Case, Difference};
 use crate::library::Library;
+use crate::numbers::{DOCKET_RECORD, DOCKET_WORDS};
 use crate::outcome::Outcome;
 use crate::records::{describe_record, smaller_records};
 use crate::shrink::{shorter, simpler_room};
@@ -105,8 +106,9 @@ fn fresh_difference(answer: u32, docket: &Lent<u32>) -> Option<Difference> {
     let due = if old.content().len() < DOCKET_WORDS {
         Outcome::refused(OUTPUT, old.content())
     } else {
-        let record = &docket.content()[2..DOCKET_WORDS];
-        Outcome::due(old.content(), Ok([&[0, 0], record].concat()))
+        let mut fresh = docket.content()[..DOCKET_WORDS].to_vec();
+        fresh[..DOCKET_RECORD].fill(0);
+        Outcome::due(old.content(), Ok(fresh))
     };
     found.against(&due)
 }

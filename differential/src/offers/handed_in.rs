@@ -1,11 +1,14 @@
 //! An offer to a docket that is handed in, also to one that no offers produce.
 
 use super::repeats::repeated;
-use super::{first_bottle, other_sample, DOCKET_WORDS, MOST_ROOM};
+use super::{first_bottle, long_enough, other_sample};
 use crate::answers;
 use crate::canary::{Cell, Lent};
 use crate::case::{Case, Difference};
 use crate::library::Library;
+use crate::numbers::{
+    DOCKET_COUNT, DOCKET_RECORD, DOCKET_STATE, DOCKET_WORDS, MOST_DOCKET_ROOM, RECORD_WORDS,
+};
 use crate::outcome::Outcome;
 use crate::random::Draw;
 use crate::records::{damaged, describe_record, smaller_records};
@@ -24,18 +27,20 @@ impl HandedIn {
     /// changed in it, or everything, or its length.
     pub fn drawn(generator: &mut Generator) -> HandedIn {
         let bottle = first_bottle(generator);
-        let mut docket = vec![drawn_state(generator), drawn_count(generator)];
+        let mut docket = vec![0; DOCKET_RECORD];
+        docket[DOCKET_STATE] = drawn_state(generator);
+        docket[DOCKET_COUNT] = drawn_count(generator);
         docket.extend(held(generator, &bottle));
         if generator.once_in(20) {
             docket.iter_mut().for_each(|word| *word = generator.word());
         }
         let length = match generator.below(8) {
-            0 => generator.between(0, MOST_ROOM),
-            1 => generator.between(DOCKET_WORDS, MOST_ROOM),
+            0 => generator.place(MOST_DOCKET_ROOM + 1),
+            1 => long_enough(generator),
             _ => DOCKET_WORDS,
         };
-        docket.extend((docket.len()..MOST_ROOM as usize).map(u32::old));
-        docket.truncate(length as usize);
+        docket.extend((docket.len()..MOST_DOCKET_ROOM).map(u32::old));
+        docket.truncate(length);
         let offer = offered(generator, &bottle);
         HandedIn { docket, offer }
     }
@@ -65,13 +70,13 @@ fn held(generator: &mut Generator, bottle: &Bottle) -> Vec<u32> {
     let mut words = match generator.below(10) {
         0 => damaged(generator),
         1 => other_sample(generator, bottle).words().to_vec(),
-        2 => vec![0; 25],
+        2 => vec![0; RECORD_WORDS],
         _ => bottle.words().to_vec(),
     };
     if generator.once_in(10) {
         generator.flip_bit(&mut words);
     }
-    words.resize(25, 0);
+    words.resize(RECORD_WORDS, 0);
     words
 }
 
@@ -93,10 +98,10 @@ impl Case for HandedIn {
     }
 
     fn smaller(&self) -> impl Iterator<Item = HandedIn> {
-        let shorter = simpler_room(self.docket.len(), DOCKET_WORDS as usize)
+        let shorter = simpler_room(self.docket.len(), DOCKET_WORDS)
             .filter(|&length| length < self.docket.len())
             .map(|length| self.docket[..length].to_vec());
-        let held_at = self.docket.len().min(2);
+        let held_at = self.docket.len().min(DOCKET_RECORD);
         let (head, held) = self.docket.split_at(held_at);
         let heads = simpler_words(head, |_| 0).map(move |head| [&head, held].concat());
         let helds = smaller_records(held).map(move |held| [head, &held].concat());
@@ -112,7 +117,8 @@ impl Case for HandedIn {
     }
 
     fn describe(&self) -> String {
-        let (head, held) = self.docket.split_at(self.docket.len().min(2));
+        let held_at = self.docket.len().min(DOCKET_RECORD);
+        let (head, held) = self.docket.split_at(held_at);
         format!(
             "an offer to a docket of {} words: state and count {head:?}, held\n{}\nand offered\n{}",
             self.docket.len(),
@@ -128,10 +134,11 @@ impl HandedIn {
         let records = smaller_records(&self.offer);
         records.filter_map(|simpler| {
             let mut smaller = self.clone();
-            if simpler.len() != self.offer.len() || self.docket.len() < 2 + simpler.len() {
+            let needed = DOCKET_RECORD + simpler.len();
+            if simpler.len() != self.offer.len() || self.docket.len() < needed {
                 return None;
             }
-            for (place, word) in smaller.docket[2..]
+            for (place, word) in smaller.docket[DOCKET_RECORD..]
                 .iter_mut()
                 .take(simpler.len())
                 .enumerate()

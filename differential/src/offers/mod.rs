@@ -7,6 +7,10 @@ mod repeats;
 
 use crate::bottles::any_bottle;
 use crate::case::{Mismatch, Run};
+use crate::numbers::{
+    DOCKET_WORDS, FIRST_READING, KIND, MOST_DOCKET_ROOM, MOST_NUMBER, NUMBER, RECORD_WORDS,
+    SOIL_WATER,
+};
 use crate::on_the_limit::bottle_on_a_limit;
 use crate::random::Draw;
 use crate::records::damaged;
@@ -18,18 +22,15 @@ use repeats::repeated;
 
 const LISTS: u32 = 400_000;
 const HANDED_IN: u32 = 600_000;
-/// The longest docket lent: three words more than it needs.
-const MOST_ROOM: u32 = 30;
-const DOCKET_WORDS: u32 = crate::answers::DOCKET_WORDS as u32;
 
 pub fn run(run: &mut Run) -> Result<(), Mismatch> {
-    for room in 0..=MOST_ROOM as usize {
+    for room in 0..=MOST_DOCKET_ROOM {
         let offers = vec![Bottle::printed().words().to_vec()];
         run.check(Followed { offers, room })?;
     }
     for _ in 0..LISTS {
         let offers = list(&mut run.generator);
-        let room = run.generator.between(DOCKET_WORDS, MOST_ROOM) as usize;
+        let room = long_enough(&mut run.generator);
         run.check(Followed { offers, room })?;
     }
     for _ in 0..HANDED_IN {
@@ -37,6 +38,11 @@ pub fn run(run: &mut Run) -> Result<(), Mismatch> {
         run.check(case)?;
     }
     Ok(())
+}
+
+/// A length that a docket fits into.
+fn long_enough(generator: &mut Generator) -> usize {
+    DOCKET_WORDS + generator.place(MOST_DOCKET_ROOM - DOCKET_WORDS + 1)
 }
 
 /// A bottle to begin with: mostly one that isn't consistent, as a consistent
@@ -53,7 +59,7 @@ fn first_bottle(generator: &mut Generator) -> Bottle {
 /// and kind.
 fn consistent(bottle: &Bottle) -> Bottle {
     let words = bottle.words();
-    Bottle::printed().number(words[0]).kind(words[1])
+    Bottle::printed().number(words[NUMBER]).kind(words[KIND])
 }
 
 /// One sample analysed again and again, with offers in between that are
@@ -92,17 +98,18 @@ fn next_analysis(generator: &mut Generator, bottles: &[Bottle]) -> Bottle {
 fn damaged_repeat(generator: &mut Generator, bottle: &Bottle) -> Vec<u32> {
     let mut words = repeated(generator, bottle).words().to_vec();
     match generator.below(3) {
-        0 => words.truncate(generator.place(25)),
+        0 => words.truncate(generator.place(RECORD_WORDS)),
         1 => words.push(0),
-        _ => words[generator.place(5)] = generator.pick(&[0, 300_000_000]),
+        _ => words[generator.place(FIRST_READING)] = generator.pick(&[0, 300_000_000]),
     }
     words
 }
 
 /// The same analysis under another number or kind, or both.
 fn other_sample(generator: &mut Generator, bottle: &Bottle) -> Bottle {
-    let (number, kind) = (bottle.words()[0], bottle.words()[1]);
-    let (next_number, next_kind) = (number % 999_999 + 1, kind % 6 + 1);
+    let words = bottle.words();
+    let next_number = words[NUMBER] % MOST_NUMBER + 1;
+    let next_kind = words[KIND] % SOIL_WATER + 1;
     match generator.below(3) {
         0 => bottle.number(next_number),
         1 => bottle.kind(next_kind),

@@ -1,11 +1,14 @@
 //! The same bottle analysed again.
 
-use crate::floats::{any_reading, MOST_AMOUNT};
+use crate::floats::any_reading;
+use crate::numbers::{
+    ALKALINITY, CONDUCTIVITY, LEAST_PH, MOST_ALKALINITY, MOST_AMOUNT, MOST_CONDUCTIVITY, MOST_PH,
+    PH, READINGS,
+};
 use crate::random::Draw;
 use reference::cases::bottle::Bottle;
 use reference::cases::generator::Generator;
 use reference::readings::Reading;
-use reference::record::{FIRST_READING, READINGS};
 
 /// A repeat: exactly the same, or with one, two or three of the things moved
 /// that agreement is about (or total nitrogen or carbon, which it isn't about).
@@ -17,9 +20,12 @@ pub fn repeated(generator: &mut Generator, bottle: &Bottle) -> Bottle {
 fn moved(generator: &mut Generator, bottle: &Bottle) -> Bottle {
     let words = bottle.words();
     match generator.below(5) {
-        0 => bottle.ph(moved_ph(generator, words[2])),
-        1 => bottle.conductivity(moved_value(generator, words[3], 100_000).max(1)),
-        2 => bottle.alkalinity(moved_value(generator, words[4], 200_000)),
+        0 => bottle.ph(moved_ph(generator, words[PH])),
+        1 => {
+            let moved = moved_value(generator, words[CONDUCTIVITY], MOST_CONDUCTIVITY);
+            bottle.conductivity(moved.max(1))
+        }
+        2 => bottle.alkalinity(moved_value(generator, words[ALKALINITY], MOST_ALKALINITY)),
         _ => {
             let place = generator.place(READINGS);
             moved_reading(generator, bottle, place)
@@ -35,7 +41,7 @@ fn moved_ph(generator: &mut Generator, p: u32) -> u32 {
     } else {
         p - step
     };
-    moved.clamp(200, 1_000)
+    moved.clamp(LEAST_PH, MOST_PH)
 }
 
 /// A value that just agrees or just doesn't: from nine tenths of it to ten
@@ -57,8 +63,8 @@ fn moved_value(generator: &mut Generator, value: u32, most: u32) -> u32 {
 
 /// Another amount, as measured or as below; now and then missing, or back.
 fn moved_reading(generator: &mut Generator, bottle: &Bottle, place: usize) -> Bottle {
-    let mark = FIRST_READING + 2 * place;
-    let reading = Reading::from_words(bottle.words()[mark], bottle.words()[mark + 1]);
+    let (mark, bits) = bottle.mark_and_bits(place);
+    let reading = Reading::from_words(mark, bits);
     let amount = reading.ok().and_then(Reading::amount);
     if generator.once_in(10) && amount.is_some() {
         return bottle.missing(place);

@@ -4,12 +4,12 @@ use crate::answers;
 use crate::canary::Lent;
 use crate::case::{Case, Difference};
 use crate::library::Library;
+use crate::numbers::{
+    bits_of, mark_of, CHECKS, FIRST_READING, READINGS, READINGS_END, READING_WORDS, RECORD_WORDS,
+};
 use crate::outcome::Outcome;
 use crate::shrink::{simpler_room, simpler_words};
 use reference::cases::bottle::Bottle;
-use reference::record::{FIRST_READING, LENGTH};
-
-const VERDICTS: usize = 4;
 
 pub struct RecordCase {
     words: Vec<u32>,
@@ -34,8 +34,7 @@ impl Case for RecordCase {
     }
 
     fn smaller(&self) -> impl Iterator<Item = RecordCase> {
-        let rooms =
-            simpler_room(self.room, VERDICTS).map(|room| RecordCase::new(&self.words, room));
+        let rooms = simpler_room(self.room, CHECKS).map(|room| RecordCase::new(&self.words, room));
         let records = smaller_records(&self.words);
         rooms.chain(records.map(|words| RecordCase::new(&words, self.room)))
     }
@@ -46,10 +45,10 @@ impl Case for RecordCase {
     }
 }
 
-/// Simpler records: shorter where they aren't 25 words, readings plain or
-/// missing, single words plain.
+/// Simpler records: shorter where they aren't as long as a record, readings
+/// plain or missing, single words plain.
 pub fn smaller_records(words: &[u32]) -> impl Iterator<Item = Vec<u32>> + '_ {
-    let lengths = simpler_room(words.len(), LENGTH)
+    let lengths = simpler_room(words.len(), RECORD_WORDS)
         .filter(|&length| length < words.len())
         .map(|length| words[..length].to_vec());
     let printed = Bottle::printed().words().to_vec();
@@ -62,31 +61,38 @@ pub fn smaller_records(words: &[u32]) -> impl Iterator<Item = Vec<u32>> + '_ {
 /// The mark and the bits of a reading changed together, which no single word
 /// can: to the printed sample's, else to missing.
 fn simpler_readings(words: &[u32]) -> impl Iterator<Item = Vec<u32>> + '_ {
-    let printed = Bottle::printed().words().to_vec();
-    let marks = (FIRST_READING..words.len().saturating_sub(1)).step_by(2);
-    marks.flat_map(move |mark| {
-        let plain = [printed.get(mark), printed.get(mark + 1)].map(|w| w.copied().unwrap_or(0));
-        let found = [words[mark], words[mark + 1]];
+    let printed = Bottle::printed();
+    let whole = (0..READINGS).take_while(|&place| bits_of(place) < words.len());
+    whole.flat_map(move |place| {
+        let (mark, bits) = (mark_of(place), bits_of(place));
+        let plain = printed.mark_and_bits(place);
+        let found = (words[mark], words[bits]);
         let is_plain = found == plain;
-        let missing = (!is_plain && found != [0, 0]).then_some([0, 0]);
+        let missing = (!is_plain && found != (0, 0)).then_some((0, 0));
         let to_plain = (!is_plain).then_some(plain);
         to_plain.into_iter().chain(missing).map(move |reading| {
             let mut words = words.to_vec();
-            words[mark..mark + 2].copy_from_slice(&reading);
+            (words[mark], words[bits]) = reading;
             words
         })
     })
 }
 
-/// The words 0 to 4 in base ten, each reading as its mark and its float's bits.
+/// The words before the readings in base ten, each reading as its mark and its
+/// float's bits, and the words after them, if any, in base ten.
 pub fn describe_record(words: &[u32]) -> String {
-    let (head, readings) = words.split_at(words.len().min(FIRST_READING));
+    let (words_to_end, tail) = words.split_at(words.len().min(READINGS_END));
+    let (head, readings) = words_to_end.split_at(words_to_end.len().min(FIRST_READING));
     let readings: Vec<String> = readings
-        .chunks(2)
+        .chunks(READING_WORDS)
         .map(|reading| match reading {
             [mark, bits] => format!("({mark}, 0x{bits:08X})"),
             rest => format!("{rest:?}"),
         })
         .collect();
-    format!("  {} words: {head:?} {}", words.len(), readings.join(" "))
+    let mut text = format!("  {} words: {head:?} {}", words.len(), readings.join(" "));
+    if !tail.is_empty() {
+        text += &format!(" {tail:?}");
+    }
+    text
 }

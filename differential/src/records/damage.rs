@@ -1,22 +1,10 @@
 //! Records that something happened to.
 
 use crate::bottles::any_bottle;
+use crate::numbers::{bits_of, mark_of, LONGEST_RECORD, RANGES, READINGS, RECORD_WORDS};
 use crate::random::Draw;
 use reference::cases::generator::Generator;
 use reference::cases::readings::EDGES;
-use reference::record::{FIRST_READING, LENGTH, READINGS};
-
-/// The least and the greatest value of the words 0 to 4.
-const RANGES: [(u32, u32); FIRST_READING] = [
-    (1, 999_999),
-    (1, 6),
-    (200, 1_000),
-    (1, 100_000),
-    (0, 200_000),
-];
-
-/// The longest slice offered as a record.
-const LONGEST: u32 = 60;
 
 /// A drawn record with one to three damages, which may yet leave it valid.
 pub fn damaged(generator: &mut Generator) -> Vec<u32> {
@@ -28,25 +16,27 @@ pub fn damaged(generator: &mut Generator) -> Vec<u32> {
 }
 
 fn damage(generator: &mut Generator, words: &mut Vec<u32>) {
-    if words.len() < LENGTH {
+    if words.len() < RECORD_WORDS {
         return generator.flip_bit(words);
     }
     match generator.below(12) {
-        0 => words[generator.place(LENGTH)] = generator.word(),
-        1 => words[generator.place(LENGTH)] = generator.pick(&[0, 1, 2, 3, u32::MAX]),
-        2 => words.swap(generator.place(LENGTH), generator.place(LENGTH)),
-        3 => words.resize(generator.between(0, LONGEST) as usize, 0),
-        4 => words.resize(generator.pick(&[24, 26]), generator.below(3)),
+        0 => words[generator.place(RECORD_WORDS)] = generator.word(),
+        1 => words[generator.place(RECORD_WORDS)] = generator.pick(&[0, 1, 2, 3, u32::MAX]),
+        2 => words.swap(generator.place(RECORD_WORDS), generator.place(RECORD_WORDS)),
+        3 => words.resize(generator.place(LONGEST_RECORD + 1), 0),
+        4 => {
+            let beside = [RECORD_WORDS - 1, RECORD_WORDS + 1];
+            words.resize(generator.pick(&beside), generator.below(3));
+        }
         5 | 6 => end_of_a_range(generator, words),
         7..=9 => edge_of_a_reading(generator, words),
         _ => generator.flip_bit(words),
     }
 }
 
-/// A word of 0 to 4 on an end of its range or one beside.
+/// A word before the readings on an end of its range or one beside.
 fn end_of_a_range(generator: &mut Generator, words: &mut [u32]) {
-    let place = generator.place(FIRST_READING);
-    let (least, greatest) = RANGES[place];
+    let (place, least, greatest) = generator.pick(&RANGES);
     let beside = generator.below(3);
     words[place] = if generator.once_in(2) {
         (least + beside).wrapping_sub(1)
@@ -57,11 +47,12 @@ fn end_of_a_range(generator: &mut Generator, words: &mut [u32]) {
 
 /// A float at which something ends, under any mark.
 fn edge_of_a_reading(generator: &mut Generator, words: &mut [u32]) {
-    let mark = FIRST_READING + 2 * generator.place(READINGS);
+    let place = generator.place(READINGS);
     if generator.once_in(2) {
-        words[mark] = generator.pick(&[0, 1, 1, 1, 2, 2, 2, 3, 4, 256, u32::MAX]);
+        let marks = [0, 1, 1, 1, 2, 2, 2, 3, 4, 256, u32::MAX];
+        words[mark_of(place)] = generator.pick(&marks);
     }
-    words[mark + 1] = generator.pick(&EDGES);
+    words[bits_of(place)] = generator.pick(&EDGES);
 }
 
 #[cfg(test)]

@@ -1,11 +1,12 @@
 //! Words at which a verdict changes, found by halving.
 
 use crate::answers::judge;
+use crate::numbers::{
+    bits_of, FIRST_READING, LEAST_LIMIT_BITS, MOST_BITS, PH, RANGES, READINGS_END, READING_WORDS,
+};
 use crate::random::Draw;
 use reference::cases::bottle::Bottle;
-use reference::cases::floats::{GREATEST, LEAST_LIMIT};
 use reference::cases::generator::Generator;
-use reference::record::{FIRST_READING, LENGTH};
 
 /// A word that may change, from its least to its greatest value.
 #[derive(Clone, Copy)]
@@ -19,14 +20,12 @@ impl Word {
     /// Any word that a verdict may depend on, with the range that keeps the
     /// record valid. Nothing for a missing reading.
     fn drawn(generator: &mut Generator, bottle: &Bottle) -> Option<Word> {
-        let place = 2 + generator.place(LENGTH - 2);
-        let (least, greatest) = match place {
-            2 => (200, 1_000),
-            3 => (1, 100_000),
-            4 => (0, 200_000),
-            _ => return Word::of_a_reading(bottle, (place - FIRST_READING) / 2),
-        };
-        Some(Word {
+        let place = PH + generator.place(READINGS_END - PH);
+        if place >= FIRST_READING {
+            return Word::of_a_reading(bottle, (place - FIRST_READING) / READING_WORDS);
+        }
+        let range = RANGES.into_iter().find(|&(word, _, _)| word == place);
+        range.map(|(place, least, greatest)| Word {
             place,
             least,
             greatest,
@@ -34,16 +33,16 @@ impl Word {
     }
 
     fn of_a_reading(bottle: &Bottle, reading: usize) -> Option<Word> {
-        let mark = FIRST_READING + 2 * reading;
-        let least = match bottle.words()[mark] {
+        let (mark, _) = bottle.mark_and_bits(reading);
+        let least = match mark {
             0 => return None,
             1 => 0,
-            _ => LEAST_LIMIT,
+            _ => LEAST_LIMIT_BITS,
         };
         Some(Word {
-            place: mark + 1,
+            place: bits_of(reading),
             least,
-            greatest: GREATEST,
+            greatest: MOST_BITS,
         })
     }
 

@@ -11,14 +11,17 @@ pub use damage::damaged;
 
 use crate::bottles::any_bottle;
 use crate::case::{Mismatch, Run};
-use crate::floats::{any_reading, ends, MOST_AMOUNT};
+use crate::floats::{any_reading, ends};
+use crate::numbers::{
+    ALKALINITY, BULK, CARBON_LINE, CHECKS, CONDUCTIVITY, LEAST_PH, MOST_ALKALINITY, MOST_AMOUNT,
+    MOST_CONDUCTIVITY, MOST_PH, ORGANIC_CARBON, PH, READINGS, RUNOFF, SOIL_WATER, WET_ONLY,
+};
 use crate::on_the_limit::bottle_on_a_limit;
 use crate::random::Draw;
 use case::RecordCase;
 use reference::cases::bottle::Bottle;
 use reference::cases::generator::Generator;
 use reference::readings::Reading;
-use reference::record::{FIRST_READING, READINGS};
 
 const DRAWN: u32 = 1_000_000;
 const FLIPS: u32 = 300_000;
@@ -43,13 +46,13 @@ pub fn run(run: &mut Run) -> Result<(), Mismatch> {
     Ok(())
 }
 
-/// Judges with a lent slice of 0 to 8 words, mostly long enough.
+/// Judges with a lent slice of up to twice the verdicts, mostly long enough.
 fn check(run: &mut Run, words: &[u32]) -> Result<(), Mismatch> {
     let room = match run.generator.below(10) {
-        0 => run.generator.below(4),
-        _ => run.generator.between(4, 8),
+        0 => run.generator.place(CHECKS),
+        _ => CHECKS + run.generator.place(CHECKS + 1),
     };
-    run.check(RecordCase::new(words, room as usize))
+    run.check(RecordCase::new(words, room))
 }
 
 /// A verdict that changes from one value of a word to the next: both, and one
@@ -69,7 +72,8 @@ fn on_the_limit(run: &mut Run) -> Result<(), Mismatch> {
         let Some(bottle) = bottle_on_a_limit(&mut run.generator) else {
             continue;
         };
-        let bottle = bottle.kind(run.generator.pick(&[1, 2, 2, 6]));
+        let kinds = [WET_ONLY, BULK, BULK, SOIL_WATER];
+        let bottle = bottle.kind(run.generator.pick(&kinds));
         check(run, bottle.words())?;
         for _ in 0..NEIGHBOURS {
             let neighbour = neighbour(&mut run.generator, &bottle);
@@ -86,13 +90,16 @@ fn neighbour(generator: &mut Generator, bottle: &Bottle) -> Bottle {
     let step =
         |generator: &mut Generator, value: u32| (value + generator.below(3)).saturating_sub(1);
     match generator.below(8) {
-        0 => bottle.ph(step(generator, words[2]).clamp(200, 1_000)),
-        1 => bottle.conductivity(step(generator, words[3]).clamp(1, 100_000)),
-        2 => bottle.alkalinity(step(generator, words[4]).min(200_000)),
+        0 => bottle.ph(step(generator, words[PH]).clamp(LEAST_PH, MOST_PH)),
+        1 => {
+            let tenths = step(generator, words[CONDUCTIVITY]);
+            bottle.conductivity(tenths.clamp(1, MOST_CONDUCTIVITY))
+        }
+        2 => bottle.alkalinity(step(generator, words[ALKALINITY]).min(MOST_ALKALINITY)),
         3 => {
-            let carbon = generator.between(4_998, 5_001);
+            let carbon = generator.between(CARBON_LINE - 2, CARBON_LINE + 1);
             let (mark, bits) = any_reading(generator, carbon);
-            bottle.kind(5).reading(9, mark, bits)
+            bottle.kind(RUNOFF).reading(ORGANIC_CARBON, mark, bits)
         }
         _ => {
             let place = generator.place(READINGS);
@@ -104,8 +111,8 @@ fn neighbour(generator: &mut Generator, bottle: &Bottle) -> Bottle {
 /// Another float for a reading: of the same amount, or the next bits after the
 /// ends of that amount's floats.
 fn other_float(generator: &mut Generator, bottle: &Bottle, place: usize) -> Bottle {
-    let mark = FIRST_READING + 2 * place;
-    let reading = Reading::from_words(bottle.words()[mark], bottle.words()[mark + 1]);
+    let (mark, bits) = bottle.mark_and_bits(place);
+    let reading = Reading::from_words(mark, bits);
     let Some(amount) = reading.ok().and_then(Reading::amount) else {
         return bottle.amount(place, generator.below(9_000));
     };

@@ -1,13 +1,13 @@
 //! Records written down: every tie, and the limits of Na/Cl, nitrogen and
 //! organic carbon exactly.
 
+use crate::numbers::{
+    AMMONIUM, CARBON_LINE, CHLORIDE, MOST_AMOUNT, MOST_BITS, NITRATE, ORGANIC_CARBON, SODIUM,
+    SOIL_WATER, TOTAL_NITROGEN, WET_ONLY,
+};
 use reference::cases::bottle::Bottle;
-use reference::cases::floats::{least_float_of, limit_of, ties, GREATEST};
-use reference::ions::{AMMONIUM, CHLORIDE, NITRATE, ORGANIC_CARBON, SODIUM, TOTAL_NITROGEN};
+use reference::cases::floats::{least_float_of, limit_of, ties, DOUBLE};
 use reference::readings::Reading;
-
-/// A float's double has the next greater exponent.
-const DOUBLE: u32 = 0x0080_0000;
 
 pub fn all() -> Vec<Vec<u32>> {
     let bottles = ties_in_nitrogen()
@@ -31,7 +31,7 @@ fn ties_in_nitrogen() -> impl Iterator<Item = Bottle> {
         let amount = amount(bits);
         let measured = bottle.reading(NITRATE, 1, bits);
         let limit = bits + DOUBLE;
-        let below = (limit <= GREATEST).then(|| bottle.below(NITRATE, limit));
+        let below = (limit <= MOST_BITS).then(|| bottle.below(NITRATE, limit));
         let nitrates = [Some(measured), below].into_iter().flatten();
         nitrates.flat_map(move |nitrate| {
             [amount.saturating_sub(1), amount].map(|total| nitrate.amount(TOTAL_NITROGEN, total))
@@ -49,7 +49,7 @@ fn exact_ratios() -> impl Iterator<Item = Bottle> {
     multiples.flat_map(|(sodium, chloride)| {
         let beside = [(1, 1), (0, 1), (2, 1), (1, 0), (1, 2)];
         beside.into_iter().flat_map(move |(more, other)| {
-            (1..=6).map(move |kind| {
+            (WET_ONLY..=SOIL_WATER).map(move |kind| {
                 let bottle = Bottle::printed()
                     .kind(kind)
                     .amount(SODIUM, sodium + more - 1);
@@ -60,7 +60,7 @@ fn exact_ratios() -> impl Iterator<Item = Bottle> {
 }
 
 fn nitrogen_sums() -> impl Iterator<Item = Bottle> {
-    let amounts = [0, 1, 2, 62, 63, 999, 50_000, 100_000];
+    let amounts = [0, 1, 2, 62, 63, 999, MOST_AMOUNT / 4, MOST_AMOUNT / 2];
     let pairs = amounts
         .into_iter()
         .flat_map(move |nitrate| amounts.map(|ammonium| (nitrate, ammonium)));
@@ -68,28 +68,28 @@ fn nitrogen_sums() -> impl Iterator<Item = Bottle> {
         let bottle = Bottle::printed().amount(NITRATE, nitrate);
         let bottle = bottle.amount(AMMONIUM, ammonium);
         (0..3).map(move |more| {
-            let total = (nitrate + ammonium + more).saturating_sub(1).min(200_000);
-            bottle.amount(TOTAL_NITROGEN, total)
+            let total = (nitrate + ammonium + more).saturating_sub(1);
+            bottle.amount(TOTAL_NITROGEN, total.min(MOST_AMOUNT))
         })
     })
 }
 
-/// Runoff's line, an amount of 4,999 or 5,000, measured and as half a limit,
-/// with all ions and with one missing.
+/// Runoff's line, the amount on it and the one before, measured and as half a
+/// limit, with all ions and with one missing.
 fn organic_carbon() -> impl Iterator<Item = Bottle> {
-    let line = least_float_of(5_000);
+    let line = least_float_of(CARBON_LINE);
     let readings = [
         (1, line - 1),
         (1, line),
         (1, 0),
         (2, line + DOUBLE - 1),
         (2, line + DOUBLE),
-        (2, limit_of(4_999)),
+        (2, limit_of(CARBON_LINE - 1)),
         (0, 0),
     ];
     readings.into_iter().flat_map(|(mark, bits)| {
         let carbon = Bottle::printed().reading(ORGANIC_CARBON, mark, bits);
-        (1..=6).flat_map(move |kind| {
+        (WET_ONLY..=SOIL_WATER).flat_map(move |kind| {
             let bottle = carbon.kind(kind);
             [bottle.missing(CHLORIDE), bottle.conductivity(201), bottle]
         })

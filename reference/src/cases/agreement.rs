@@ -4,8 +4,10 @@ use super::bottle::{plausible, Bottle};
 use super::floats::limit_of;
 use super::generator::Generator;
 use super::Cases;
-use crate::ions::IONS;
-use crate::record::READINGS;
+use crate::numbers::{
+    ALKALINITY, CALCIUM, CHLORIDE, CONDUCTIVITY, IONS, LEAST_LIMIT_BITS, LEAST_PH, MOST_ALKALINITY,
+    MOST_CONDUCTIVITY, MOST_PH, ORGANIC_CARBON, PH, READINGS, RECORD_WORDS, RUNOFF, SOIL_WATER,
+};
 
 /// Asks both ways round.
 fn compare(cases: &mut Cases, first: &Bottle, second: &Bottle) {
@@ -37,8 +39,8 @@ const TENTHS: [(u32, u32); 12] = [
     (11, 10),
     (1, 1),
     (2, 1),
-    (100_000, 90_000),
-    (100_000, 89_999),
+    (MOST_CONDUCTIVITY, MOST_CONDUCTIVITY / 10 * 9),
+    (MOST_CONDUCTIVITY, MOST_CONDUCTIVITY / 10 * 9 - 1),
     (55_555, 50_000),
 ];
 
@@ -47,13 +49,13 @@ fn whole_words(cases: &mut Cases) {
     let bottle = Bottle::doubtful();
     compare(cases, &bottle, &bottle);
     compare(cases, &bottle, &bottle.number(42));
-    compare(cases, &bottle, &bottle.kind(5));
+    compare(cases, &bottle, &bottle.kind(RUNOFF));
     for (first, second) in [
         (500, 510),
         (500, 511),
-        (200, 210),
-        (989, 1_000),
-        (990, 1_000),
+        (LEAST_PH, LEAST_PH + 10),
+        (MOST_PH - 11, MOST_PH),
+        (MOST_PH - 10, MOST_PH),
     ] {
         compare(cases, &bottle.ph(first), &bottle.ph(second));
     }
@@ -65,7 +67,13 @@ fn whole_words(cases: &mut Cases) {
         );
         compare(cases, &bottle.alkalinity(first), &bottle.alkalinity(second));
     }
-    for (first, second) in [(0, 0), (0, 1), (200_000, 180_000), (200_000, 179_999)] {
+    let tenth_less = MOST_ALKALINITY / 10 * 9;
+    for (first, second) in [
+        (0, 0),
+        (0, 1),
+        (MOST_ALKALINITY, tenth_less),
+        (MOST_ALKALINITY, tenth_less - 1),
+    ] {
         compare(cases, &bottle.alkalinity(first), &bottle.alkalinity(second));
     }
 }
@@ -83,10 +91,12 @@ fn amounts(cases: &mut Cases) {
         }
     }
     for (first, second) in TENTHS {
-        compare(cases, &bottle.amount(7, first), &bottle.amount(7, second));
+        let [first, second] = [first, second].map(|amount| bottle.amount(CHLORIDE, amount));
+        compare(cases, &first, &second);
     }
     // Other floats of the same amount agree as that amount does.
-    compare(cases, &bottle.reading(1, 1, 0), &bottle.reading(1, 1, 1));
+    let [first, second] = [0, 1].map(|bits| bottle.reading(CALCIUM, 1, bits));
+    compare(cases, &first, &second);
 }
 
 fn missing_and_below(cases: &mut Cases) {
@@ -103,7 +113,7 @@ fn missing_and_below(cases: &mut Cases) {
         }
         compare(
             cases,
-            &bottle.below(place, 0x3A80_0000),
+            &bottle.below(place, LEAST_LIMIT_BITS),
             &bottle.amount(place, 0),
         );
     }
@@ -114,11 +124,11 @@ fn refused(cases: &mut Cases) {
     let bottle = Bottle::doubtful();
     let faulty = [
         bottle.number(0),
-        bottle.kind(7),
-        bottle.ph(1_001),
+        bottle.kind(SOIL_WATER + 1),
+        bottle.ph(MOST_PH + 1),
         bottle.conductivity(0),
-        bottle.alkalinity(200_001),
-        bottle.reading(9, 3, 0),
+        bottle.alkalinity(MOST_ALKALINITY + 1),
+        bottle.reading(ORGANIC_CARBON, 3, 0),
     ];
     for first in &faulty {
         compare(cases, first, &bottle);
@@ -127,9 +137,11 @@ fn refused(cases: &mut Cases) {
         }
     }
     let words = bottle.words();
-    compare_slices(cases, &words[..24], words);
-    compare_slices(cases, words, &words[..24]);
-    compare_slices(cases, faulty[5].words(), &words[..24]);
+    let cut = &words[..RECORD_WORDS - 1];
+    compare_slices(cases, cut, words);
+    compare_slices(cases, words, cut);
+    let [.., bad_reading] = &faulty;
+    compare_slices(cases, bad_reading.words(), cut);
     compare_slices(cases, &[], &[]);
     compare_slices(cases, &[words, &[0]].concat(), words);
     compare_slices(cases, words, &[words, &[0]].concat());
@@ -138,11 +150,16 @@ fn refused(cases: &mut Cases) {
 /// The same bottle analysed twice, each reading a little off.
 pub fn repeated(generator: &mut Generator, bottle: &Bottle, percent: u32) -> Bottle {
     let words = bottle.words();
-    let mut other = bottle.ph((words[2] + generator.below(14)).clamp(200, 1_000));
-    other = other.conductivity(generator.near(words[3], percent).clamp(1, 100_000));
-    other = other.alkalinity(generator.near(words[4], percent).min(200_000));
+    let ph = (words[PH] + generator.below(14)).clamp(LEAST_PH, MOST_PH);
+    let mut near = |field: usize| generator.near(words[field], percent);
+    let conductivity = near(CONDUCTIVITY).clamp(1, MOST_CONDUCTIVITY);
+    let alkalinity = near(ALKALINITY).min(MOST_ALKALINITY);
+    let mut other = bottle
+        .ph(ph)
+        .conductivity(conductivity)
+        .alkalinity(alkalinity);
     let place = generator.below(READINGS as u32) as usize;
-    let (mark, bits) = (words[5 + 2 * place], words[6 + 2 * place]);
+    let (mark, bits) = bottle.mark_and_bits(place);
     if mark == 1 && bits > 0x0080_0000 {
         // A step of 2^20 in the bits is an eighth of the float's power of 2.
         other = other.reading(place, 1, bits - generator.below(1 << 21));

@@ -3,34 +3,52 @@
 use super::bottle::{plausible, Bottle};
 use super::generator::Generator;
 use super::Cases;
-use crate::batch::ROW;
+use crate::numbers::{
+    answer_words, reading_of, AMMONIUM, CHART_ELEMENT, CHART_HEAD, CHART_LATER, CHART_SETUP,
+    COUNT_WORDS, LEAST_LIMIT_BITS, LEAST_SETUP, MOST_ALKALINITY, MOST_CHARTS, MOST_LATER, MOST_PH,
+    MOST_SAMPLES, MOST_SETUP, MOST_VALUE, ORGANIC_CARBON, POTASSIUM, READINGS, RECORD_WORDS,
+    REPLAY_ROOM, REPLAY_WORDS, SOIL_WATER,
+};
 use std::slice::from_ref;
 
-/// A setup without variance: ten values of 1,000.
-pub fn flat() -> [u32; 10] {
-    [1_000; 10]
+/// The least setup, and without variance: all values are 1,000.
+pub fn flat() -> [u32; LEAST_SETUP] {
+    [1_000; LEAST_SETUP]
 }
 
-/// A chart's words: element, setup count, later count, values.
+/// A chart's first words: element, setup count, later count, whatever these say.
+pub fn chart_head(element: u32, setup: usize, later: usize) -> Vec<u32> {
+    let mut head = vec![0; CHART_HEAD];
+    head[CHART_ELEMENT] = element;
+    head[CHART_SETUP] = setup as u32;
+    head[CHART_LATER] = later as u32;
+    head
+}
+
+/// A chart's words: its head, then its values.
 pub fn chart(element: u32, setup: &[u32], later: &[u32]) -> Vec<u32> {
-    let head = [element, setup.len() as u32, later.len() as u32];
+    let head = chart_head(element, setup.len(), later.len());
     [&head, setup, later].concat()
+}
+
+/// A batch from its charts' count on, whatever that says.
+pub fn charts_counted(count: u32, rest: &[u32]) -> Vec<u32> {
+    [&[count], rest].concat()
+}
+
+/// A batch without charts from its samples' count on, whatever that says.
+pub fn samples_counted(count: u32, rest: &[u32]) -> Vec<u32> {
+    charts_counted(0, &[&[count], rest].concat())
 }
 
 /// A batch's words: "two sections, each after its count".
 pub fn batch(charts: &[Vec<u32>], samples: &[Bottle]) -> Vec<u32> {
-    let mut words = vec![charts.len() as u32];
-    words.extend(charts.concat());
-    words.push(samples.len() as u32);
+    let mut rest = charts.concat();
+    rest.push(samples.len() as u32);
     for sample in samples {
-        words.extend(sample.words());
+        rest.extend(sample.words());
     }
-    words
-}
-
-/// How many words the answer to a batch with these samples has.
-fn room_for(samples: usize) -> usize {
-    1 + ROW * samples
+    charts_counted(charts.len() as u32, &rest)
 }
 
 fn add(cases: &mut Cases, room: usize, batch: &[u32]) {
@@ -59,64 +77,76 @@ pub fn small() -> Vec<u32> {
 }
 
 fn small_ones(cases: &mut Cases) {
-    add(cases, 1, &[0, 0]);
-    add(cases, 0, &[0, 0]);
-    add(cases, 3, &[0, 0]);
-    add(cases, 7, &batch(&[], &[Bottle::printed()]));
-    add(cases, 1, &batch(&[chart(1, &flat(), &[])], &[]));
-    add(cases, 13, &small());
+    for room in [1, 0, 3] {
+        add(cases, room, &batch(&[], &[]));
+    }
+    add(cases, answer_words(1), &batch(&[], &[Bottle::printed()]));
+    add(
+        cases,
+        answer_words(0),
+        &batch(&[chart(1, &flat(), &[])], &[]),
+    );
+    add(cases, answer_words(2), &small());
     let same = [Bottle::printed(), Bottle::printed()];
-    add(cases, 13, &batch(&[], &same));
+    add(cases, answer_words(2), &batch(&[], &same));
 }
 
 /// "8 a batch ends early": after every word of it, and words left over.
 fn every_prefix(cases: &mut Cases) {
     let whole = small();
+    let room = answer_words(2);
     for length in 0..whole.len() {
-        add(cases, 13, &whole[..length]);
+        add(cases, room, &whole[..length]);
     }
-    for leftover in [vec![0], vec![0, 0], vec![7; 25]] {
-        add(cases, 13, &[whole.clone(), leftover].concat());
+    for leftover in [vec![0], vec![0, 0], vec![7; RECORD_WORDS]] {
+        add(cases, room, &[whole.clone(), leftover].concat());
     }
-    add(cases, 4, &[0, 0, 0]);
+    add(cases, 4, &samples_counted(0, &[0]));
 }
 
 fn single_refusals(cases: &mut Cases) {
-    for count in [11, 12, 400, u32::MAX] {
-        add(cases, 1, &[count, 0]);
+    let room = answer_words(0);
+    for count in [MOST_CHARTS + 1, MOST_CHARTS + 2, MOST_SAMPLES, u32::MAX] {
+        add(cases, room, &charts_counted(count, &[0]));
     }
-    for count in [401, 65_536, u32::MAX] {
-        add(cases, 1, &[0, count]);
+    for count in [MOST_SAMPLES + 1, 65_536, u32::MAX] {
+        add(cases, room, &samples_counted(count, &[]));
     }
-    for element in [0, 1, 10, 11, u32::MAX] {
-        add(cases, 1, &batch(&[chart(element, &flat(), &[1])], &[]));
+    let last = READINGS as u32;
+    for element in [0, 1, last, last + 1, u32::MAX] {
+        add(cases, room, &batch(&[chart(element, &flat(), &[1])], &[]));
     }
-    for (setup, later) in [
-        (0, 0),
-        (9, 0),
-        (10, 65),
-        (65, 0),
-        (64, 64),
-        (u32::MAX, u32::MAX),
-    ] {
-        let values = vec![1_000; 128.min(setup.saturating_add(later)) as usize];
-        add(
-            cases,
-            1,
-            &[vec![1, 3, setup, later], values, vec![0]].concat(),
-        );
-    }
-    for value in [200_000, 200_001, u32::MAX] {
+    chart_counts(cases);
+    for value in [MOST_VALUE, MOST_VALUE + 1, u32::MAX] {
         let mut setup = flat();
-        setup[9] = value;
-        add(cases, 1, &batch(&[chart(3, &setup, &[])], &[]));
-        add(cases, 1, &batch(&[chart(3, &flat(), &[5, value])], &[]));
+        setup[LEAST_SETUP - 1] = value;
+        add(cases, room, &batch(&[chart(3, &setup, &[])], &[]));
+        add(cases, room, &batch(&[chart(3, &flat(), &[5, value])], &[]));
     }
+    let room = answer_words(2);
     for faulty in faulty_bottles() {
-        add(cases, 13, &batch(&[], &[Bottle::printed(), faulty.clone()]));
-        add(cases, 13, &batch(&[], &[faulty, Bottle::printed()]));
+        let second = [Bottle::printed(), faulty.clone()];
+        add(cases, room, &batch(&[], &second));
+        add(cases, room, &batch(&[], &[faulty, Bottle::printed()]));
     }
     eleven_charts(cases);
+}
+
+/// A chart's counts at the ends of their ranges and beyond.
+fn chart_counts(cases: &mut Cases) {
+    const MOST: usize = u32::MAX as usize;
+    for (setup, later) in [
+        (0, 0),
+        (LEAST_SETUP - 1, 0),
+        (LEAST_SETUP, MOST_LATER + 1),
+        (MOST_SETUP + 1, 0),
+        (MOST_SETUP, MOST_LATER),
+        (MOST, MOST),
+    ] {
+        let values = vec![1_000; (setup + later).min(MOST_SETUP + MOST_LATER)];
+        let chart = [chart_head(3, setup, later), values];
+        add(cases, answer_words(0), &batch(&[chart.concat()], &[]));
+    }
 }
 
 /// Bottles that a record's tests refuse with 2 to 7.
@@ -124,69 +154,84 @@ fn faulty_bottles() -> [Bottle; 6] {
     let printed = Bottle::printed();
     [
         printed.number(0),
-        printed.kind(7),
-        printed.ph(1_001),
+        printed.kind(SOIL_WATER + 1),
+        printed.ph(MOST_PH + 1),
         printed.conductivity(0),
-        printed.alkalinity(200_001),
-        printed.reading(9, 0, 1),
+        printed.alkalinity(MOST_ALKALINITY + 1),
+        printed.reading(ORGANIC_CARBON, 0, 1),
     ]
 }
 
 /// Ten charts are taken whole; the eleventh is one too many.
 fn eleven_charts(cases: &mut Cases) {
-    let charts: Vec<Vec<u32>> = (1..=11)
+    let charts: Vec<Vec<u32>> = (1..=MOST_CHARTS + 1)
         .map(|element| chart(element, &flat(), &[1_000]))
         .collect();
-    add(cases, 7, &batch(&charts[..10], &[Bottle::printed()]));
-    add(cases, 7, &batch(&charts, &[Bottle::printed()]));
+    let most = &charts[..MOST_CHARTS as usize];
+    for charts in [most, &charts] {
+        let words = batch(charts, &[Bottle::printed()]);
+        add(cases, answer_words(1), &words);
+    }
 }
 
 /// Two faults of the charts at once.
 fn competing_in_charts(cases: &mut Cases) {
+    let (few, least, most, many) = (LEAST_SETUP - 1, LEAST_SETUP, MOST_LATER, MOST_LATER + 1);
     let good = chart(8, &flat(), &[1_000]);
-    let mut charts = |charts: &[Vec<u32>]| add(cases, 1, &batch(charts, &[]));
+    let bad_value = bad_value(8);
+    let mut charts = |charts: &[Vec<u32>]| add(cases, answer_words(0), &batch(charts, &[]));
     // The element before the counts, out of range and repeated.
-    charts(&[vec![0, 9, 0]]);
-    charts(&[vec![11, 10, 65]]);
-    charts(&[good.clone(), vec![8, 9, 0]]);
-    charts(&[good.clone(), vec![8, 10, 65]]);
+    charts(&[chart_head(0, few, 0)]);
+    charts(&[chart_head(READINGS as u32 + 1, least, many)]);
+    charts(&[good.clone(), chart_head(8, few, 0)]);
+    charts(&[good.clone(), chart_head(8, least, many)]);
     charts(&[good.clone(), chart(9, &flat(), &[]), good.clone()]);
     // The counts before missing values, missing values before bad ones.
-    charts(&[vec![8, 9, 64, 1_000]]);
-    charts(&[vec![8, 10, 65, 1_000]]);
-    charts(&[vec![8, 64, 64, 200_001]]);
+    let mut cut_short = |head: Vec<u32>, value: u32| charts(&[[head, vec![value]].concat()]);
+    cut_short(chart_head(8, few, most), 1_000);
+    cut_short(chart_head(8, least, many), 1_000);
+    cut_short(chart_head(8, MOST_SETUP, most), MOST_VALUE + 1);
     // A bad value before the next chart's element.
-    charts(&[chart(8, &[200_001; 10], &[]), vec![0, 0, 0]]);
-    charts(&[chart(8, &[200_001; 10], &[]), vec![8]]);
+    charts(&[bad_value.clone(), chart_head(0, 0, 0)]);
+    charts(&[bad_value, chart_head(8, 0, 0)[..=CHART_ELEMENT].to_vec()]);
     // A repeated element whose first chart has a bad value.
-    charts(&[chart(8, &flat(), &[200_001]), good]);
-    // The three words of a chart must be whole before the element's test.
-    add(cases, 1, &[1, 0]);
-    add(cases, 1, &[1, 0, 9]);
-    add(cases, 1, &[1, 0, 9, 65]);
-    add(cases, 1, &[1, 5, 9, 65]);
+    charts(&[chart(8, &flat(), &[MOST_VALUE + 1]), good]);
+    // The words of a chart's head must be whole before the element's test.
+    let bad_head = chart_head(0, few, many);
+    let mut begun = |count: u32, head: &[u32]| add(cases, 1, &charts_counted(count, head));
+    begun(1, &bad_head[..CHART_HEAD - 2]);
+    begun(1, &bad_head[..CHART_HEAD - 1]);
+    begun(1, &bad_head);
+    begun(1, &chart_head(5, few, many));
     // A section's count before everything in it.
-    add(cases, 1, &[11, 0, 9, 65]);
-    add(cases, 1, &[11]);
+    begun(MOST_CHARTS + 1, &bad_head);
+    begun(MOST_CHARTS + 1, &[]);
+}
+
+/// A chart whose setup values are all out of their range.
+fn bad_value(element: u32) -> Vec<u32> {
+    chart(element, &[MOST_VALUE + 1; LEAST_SETUP], &[])
 }
 
 /// Faults of two parts at once: the front one is answered.
 fn competing_across_parts(cases: &mut Cases) {
     let good = chart(8, &flat(), &[1_000]);
-    let bad_value = chart(8, &[200_001; 10], &[]);
+    let bad_value = bad_value(8);
     let [bad_number, bad_kind, .., bad_reading] = faulty_bottles();
-    let mut add = |batch: &[u32]| add(cases, 13, batch);
+    let mut add = |batch: &[u32]| add(cases, answer_words(2), batch);
     add(&batch(from_ref(&bad_value), from_ref(&bad_number)));
     add(&batch(from_ref(&good), from_ref(&bad_number)));
-    add(&[vec![1], bad_value, vec![401]].concat());
-    add(&[vec![1], good, vec![401, 0]].concat());
+    let too_many = MOST_SAMPLES + 1;
+    add(&charts_counted(1, &[bad_value, vec![too_many]].concat()));
+    add(&charts_counted(1, &[good, vec![too_many, 0]].concat()));
     add(&batch(&[], &[bad_reading.clone(), bad_kind.clone()]));
     add(&batch(&[], &[bad_kind, bad_reading.clone()]));
     // A bad record, and the next one missing or cut.
-    add(&[&[0, 2], bad_number.words()].concat());
-    add(&[&[0, 2], bad_reading.words(), &bad_reading.words()[..24]].concat());
+    add(&samples_counted(2, bad_number.words()));
+    let cut = &bad_reading.words()[..RECORD_WORDS - 1];
+    add(&samples_counted(2, &[bad_reading.words(), cut].concat()));
     // A bad number in a record that isn't whole.
-    add(&[&[0, 1], &bad_number.words()[..24]].concat());
+    add(&samples_counted(1, &bad_number.words()[..RECORD_WORDS - 1]));
 }
 
 /// Leftovers and a short output, with each other and with other faults.
@@ -195,15 +240,18 @@ fn competing_at_the_end(cases: &mut Cases) {
     let [bad_number, bad_kind, ..] = faulty_bottles();
     for bottle in [Bottle::printed(), bad_kind] {
         let leftover = [batch(&[], &[bottle]), vec![9]].concat();
-        for room in [0, 6, 7, 13] {
+        let exact = answer_words(1);
+        for room in [0, exact - 1, exact, answer_words(2)] {
             add(cases, room, &leftover);
         }
     }
-    add(cases, 0, &[11]);
-    add(cases, 0, &[0, 401]);
-    add(cases, 0, &[0]);
-    add(cases, 0, &batch(&[vec![0, 9, 65]], &[]));
-    add(cases, 0, &batch(&[good], &[bad_number]));
+    let mut without_room = |batch: &[u32]| add(cases, 0, batch);
+    without_room(&charts_counted(MOST_CHARTS + 1, &[]));
+    without_room(&samples_counted(MOST_SAMPLES + 1, &[]));
+    without_room(&charts_counted(0, &[]));
+    let bad_head = chart_head(0, LEAST_SETUP - 1, MOST_LATER + 1);
+    without_room(&batch(&[bad_head], &[]));
+    without_room(&batch(&[good], &[bad_number]));
 }
 
 /// The last word of a row: signals, and elements missing in the sample.
@@ -215,16 +263,18 @@ fn flags(cases: &mut Cases) {
     // In the printed sample the tenth reading is missing.
     for element in [1, 2, 8, 9, 10] {
         for make in [&calm as &dyn Fn(u32) -> Vec<u32>, &loud, &without_later] {
-            let samples = [printed.clone(), printed.missing(element as usize - 1)];
-            add(cases, 13, &batch(&[make(element)], &samples));
+            let samples = [printed.clone(), printed.missing(reading_of(element))];
+            let words = batch(&[make(element)], &samples);
+            add(cases, answer_words(samples.len()), &words);
         }
     }
+    // Elements 1 and 5.
     let samples = [
         printed.clone(),
-        printed.missing(0),
-        printed.missing(4),
-        printed.missing(0).missing(4),
-        printed.below(4, 0x3A80_0000),
+        printed.missing(AMMONIUM),
+        printed.missing(POTASSIUM),
+        printed.missing(AMMONIUM).missing(POTASSIUM),
+        printed.below(POTASSIUM, LEAST_LIMIT_BITS),
     ];
     for (first, second) in [
         (loud(1), loud(5)),
@@ -236,25 +286,29 @@ fn flags(cases: &mut Cases) {
         (without_later(1), loud(5)),
         (without_later(1), without_later(5)),
     ] {
-        add(cases, 31, &batch(&[first, second], &samples));
+        let words = batch(&[first, second], &samples);
+        add(cases, answer_words(samples.len()), &words);
     }
 }
 
 fn rooms(cases: &mut Cases) {
     for samples in [0, 1, 2, 5] {
         let batch = batch(&[], &vec![Bottle::printed(); samples]);
-        let exact = room_for(samples);
-        for room in [0, 1, exact - 1, exact, exact + 1, 256] {
+        let exact = answer_words(samples);
+        for room in [0, 1, exact - 1, exact, exact + 1, REPLAY_ROOM as usize] {
             add(cases, room, &batch);
         }
     }
-    let many: Vec<Bottle> = (1..=40).map(|n| Bottle::printed().number(n)).collect();
-    add(cases, 256, &batch(&[], &many));
-    add(cases, 240, &batch(&[], &many));
+    // As many samples as a case has words for beside the room and both counts.
+    let most = (REPLAY_WORDS - 1 - 2 * COUNT_WORDS) / RECORD_WORDS;
+    let numbers = (1..).take(most);
+    let many: Vec<Bottle> = numbers.map(|n| Bottle::printed().number(n)).collect();
+    add(cases, REPLAY_ROOM as usize, &batch(&[], &many));
+    add(cases, answer_words(most) - 1, &batch(&[], &many));
 }
 
 fn scattered_chart(generator: &mut Generator, element: u32) -> Vec<u32> {
-    let n = generator.pick(&[10, 12, 20]);
+    let n = generator.pick(&[LEAST_SETUP, 12, 20]);
     let setup: Vec<u32> = (0..n).map(|_| 2_000 + generator.below(200)).collect();
     let length = generator.pick(&[0, 1, 5, 9]);
     let later: Vec<u32> = (0..length).map(|_| 1_950 + generator.below(300)).collect();
@@ -264,10 +318,10 @@ fn scattered_chart(generator: &mut Generator, element: u32) -> Vec<u32> {
 fn scattered(cases: &mut Cases) {
     let mut generator = Generator::new(801);
     for _ in 0..60 {
-        let first = generator.between(1, 10);
+        let first = generator.between(1, READINGS as u32);
         let count = generator.below(4);
         let charts: Vec<Vec<u32>> = (0..count)
-            .map(|index| scattered_chart(&mut generator, (first + 3 * index) % 10 + 1))
+            .map(|index| scattered_chart(&mut generator, (first + 3 * index) % READINGS as u32 + 1))
             .collect();
         let samples: Vec<Bottle> = (0..generator.below(12))
             .map(|_| plausible(&mut generator))
@@ -277,6 +331,6 @@ fn scattered(cases: &mut Cases) {
             let place = generator.below(words.len() as u32) as usize;
             words[place] ^= 1 << generator.below(32);
         }
-        add(cases, room_for(samples.len()), &words);
+        add(cases, answer_words(samples.len()), &words);
     }
 }

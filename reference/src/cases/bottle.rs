@@ -4,15 +4,19 @@ use super::floats::{float_of, limit_of};
 use super::generator::Generator;
 use crate::hydrogen::Ph;
 use crate::ions::{
-    alkalinity_charge, charge, ALKALINITY_CONDUCTANCE, AMMONIUM, ANIONS, CATIONS, CHLORIDE,
-    HYDROGEN_CONDUCTANCE, IONS, NITRATE, ORGANIC_CARBON, SODIUM, TABLE, TOTAL_NITROGEN,
+    alkalinity_charge, charge, ALKALINITY_CONDUCTANCE, ANIONS, CATIONS, HYDROGEN_CONDUCTANCE, TABLE,
 };
-use crate::record::{FIRST_READING, LENGTH, READINGS};
+use crate::numbers::{
+    bits_of, mark_of, ALKALINITY, AMMONIUM, BULK, CHLORIDE, CONDUCTIVITY, CONDUCTIVITY_TENTH, IONS,
+    KIND, LEAST_PH, MOST_BELOW, MOST_CONDUCTIVITY, MOST_NUMBER, MOST_PH, NITRATE, NUMBER,
+    ORGANIC_CARBON, PH, READINGS, RECORD_WORDS, SODIUM, SOIL_WATER, THROUGHFALL, TOTAL_NITROGEN,
+    WET_ONLY,
+};
 
-/// The 25 words of a record, which its own tests may refuse.
+/// The words of a record, which its own tests may refuse.
 #[derive(Clone, Debug, PartialEq, Eq)]
 pub struct Bottle {
-    words: [u32; LENGTH],
+    words: [u32; RECORD_WORDS],
 }
 
 impl Bottle {
@@ -37,9 +41,10 @@ impl Bottle {
     }
 
     fn without_readings() -> Bottle {
-        let mut words = [0; LENGTH];
-        words[..FIRST_READING].copy_from_slice(&[7, 2, 500, 150, 0]);
-        Bottle { words }
+        let empty = Bottle {
+            words: [0; RECORD_WORDS],
+        };
+        empty.number(7).kind(BULK).ph(500).conductivity(150)
     }
 
     /// The bottle of the proved cases 5 to 12: "p 500, the eight ions measured
@@ -56,7 +61,7 @@ impl Bottle {
         let amounts = [800, 1_000, 400, 2_000, 1_500, 900, 700, 3_000, 1_000, 6_000];
         let mut bottle = Bottle::without_readings()
             .number(41)
-            .kind(3)
+            .kind(THROUGHFALL)
             .alkalinity(300);
         for (place, amount) in amounts.into_iter().enumerate() {
             bottle = bottle.amount(place, amount);
@@ -75,28 +80,31 @@ impl Bottle {
     }
 
     pub fn number(&self, number: u32) -> Bottle {
-        self.word(0, number)
+        self.word(NUMBER, number)
     }
 
     pub fn kind(&self, kind: u32) -> Bottle {
-        self.word(1, kind)
+        self.word(KIND, kind)
     }
 
     pub fn ph(&self, hundredths: u32) -> Bottle {
-        self.word(2, hundredths)
+        self.word(PH, hundredths)
     }
 
     pub fn conductivity(&self, tenths: u32) -> Bottle {
-        self.word(3, tenths)
+        self.word(CONDUCTIVITY, tenths)
     }
 
     pub fn alkalinity(&self, tenths: u32) -> Bottle {
-        self.word(4, tenths)
+        self.word(ALKALINITY, tenths)
     }
 
     pub fn reading(&self, place: usize, mark: u32, bits: u32) -> Bottle {
-        let first = FIRST_READING + 2 * place;
-        self.word(first, mark).word(first + 1, bits)
+        self.word(mark_of(place), mark).word(bits_of(place), bits)
+    }
+
+    pub fn mark_and_bits(&self, place: usize) -> (u32, u32) {
+        (self.words[mark_of(place)], self.words[bits_of(place)])
     }
 
     pub fn amount(&self, place: usize, amount: u32) -> Bottle {
@@ -123,7 +131,7 @@ pub fn plausible(generator: &mut Generator) -> Bottle {
         if generator.once_in(60) {
             bottle = bottle.missing(place);
         } else if generator.once_in(25) && draft.amounts[place] > 0 {
-            bottle = bottle.below(place, limit_of(draft.amounts[place].min(99_999)));
+            bottle = bottle.below(place, limit_of(draft.amounts[place].min(MOST_BELOW - 1)));
         }
     }
     bottle
@@ -151,7 +159,7 @@ impl Draft {
         amounts[ORGANIC_CARBON] = generator.below(9_000);
         let ph = match generator.below(4) {
             0 => 100 * generator.between(4, 8),
-            1 => generator.between(200, 1_000),
+            1 => generator.between(LEAST_PH, MOST_PH),
             _ => generator.between(420, 720),
         };
         Draft {
@@ -176,7 +184,7 @@ impl Draft {
         let percent = generator.pick(&[5, 20, 60, 90]);
         let surplus = self.hydrogen() + self.charges(CATIONS) - self.charges(ANIONS);
         if surplus > 0 {
-            let tenths = (surplus / 100_000_000).min(150_000) as u32;
+            let tenths = (surplus / alkalinity_charge(1)).min(150_000) as u32;
             self.alkalinity = generator.near(tenths, percent);
         } else {
             let sodium = (-surplus / charge(SODIUM, 1)) as u32;
@@ -192,14 +200,14 @@ impl Draft {
         let ions: i128 = (0..IONS).map(part).sum();
         let alkalinity = ALKALINITY_CONDUCTANCE * alkalinity_charge(self.alkalinity);
         let calculated = HYDROGEN_CONDUCTANCE * self.hydrogen() + alkalinity + ions;
-        let tenths = (calculated / 1_000_000_000_000).min(90_000) as u32;
-        self.conductivity = generator.near(tenths, 35).clamp(1, 100_000);
+        let tenths = (calculated / CONDUCTIVITY_TENTH).min(90_000) as u32;
+        self.conductivity = generator.near(tenths, 35).clamp(1, MOST_CONDUCTIVITY);
     }
 
     fn bottle(&self, generator: &mut Generator) -> Bottle {
         let mut bottle = Bottle::without_readings()
-            .number(generator.between(1, 999_999))
-            .kind(generator.between(1, 6))
+            .number(generator.between(1, MOST_NUMBER))
+            .kind(generator.between(WET_ONLY, SOIL_WATER))
             .ph(self.ph)
             .conductivity(self.conductivity)
             .alkalinity(self.alkalinity);

@@ -2,21 +2,22 @@
 
 use super::generator::Generator;
 use super::Cases;
+use crate::numbers::{LEAST_SETUP, MOST_LATER, MOST_SETUP, MOST_VALUE};
 
 /// Mean 1,000; two deviations are 4 exactly, three are 6 exactly.
-const SETUP: [u32; 10] = [1003, 997, 1003, 997, 1000, 1000, 1000, 1000, 1000, 1000];
+const SETUP: [u32; LEAST_SETUP] = [1003, 997, 1003, 997, 1000, 1000, 1000, 1000, 1000, 1000];
 /// The same with deviations ten times as wide.
-pub const WIDE: [u32; 10] = [1030, 970, 1030, 970, 1000, 1000, 1000, 1000, 1000, 1000];
+pub const WIDE: [u32; LEAST_SETUP] = [1030, 970, 1030, 970, 1000, 1000, 1000, 1000, 1000, 1000];
 /// Mean 1,000 and no variance.
-const FLAT: [u32; 10] = [1000; 10];
+const FLAT: [u32; LEAST_SETUP] = [1000; LEAST_SETUP];
 /// Mean 100, a deviation of 1.49.
-const AROUND_HUNDRED: [u32; 10] = [98, 99, 100, 101, 102, 98, 99, 100, 101, 102];
+const AROUND_HUNDRED: [u32; LEAST_SETUP] = [98, 99, 100, 101, 102, 98, 99, 100, 101, 102];
 /// Mean 100 and no variance.
-const ALL_HUNDRED: [u32; 10] = [100; 10];
+const ALL_HUNDRED: [u32; LEAST_SETUP] = [100; LEAST_SETUP];
 
 /// A chart worked by hand: its setup values, its later values and their signal
 /// words.
-pub type Worked = ([u32; 10], &'static [u32], &'static [u32]);
+pub type Worked = ([u32; LEAST_SETUP], &'static [u32], &'static [u32]);
 
 /// 103 is beyond 2 and 105 beyond 3; the seventh value ends seven that rise,
 /// the eighth also seven above the mean.
@@ -67,18 +68,19 @@ fn add_with_room(cases: &mut Cases, setup: &[u32], later: &[u32], room: usize) {
 }
 
 fn counts(cases: &mut Cases) {
-    for setup in [0, 1, 9, 10, 11, 64, 65] {
-        for later in [0, 1, 6, 7, 64, 65] {
-            let setup: Vec<u32> = (0..setup).map(|index| 500 + index % 7).collect();
-            let later: Vec<u32> = (0..later).map(|index| 498 + 5 * (index % 3)).collect();
-            add(cases, &setup, &later);
+    let (least, most) = (LEAST_SETUP, MOST_SETUP);
+    for setup in [0, 1, least - 1, least, least + 1, most, most + 1] {
+        for later in [0, 1, 6, 7, MOST_LATER, MOST_LATER + 1] {
+            let setup: Vec<u32> = (0..setup as u32).map(|index| 500 + index % 7).collect();
+            let later = (0..later as u32).map(|index| 498 + 5 * (index % 3));
+            add(cases, &setup, &later.collect::<Vec<u32>>());
         }
     }
 }
 
 fn values(cases: &mut Cases) {
-    for value in [0, 199_999, 200_000, 200_001, u32::MAX] {
-        for place in [0, 9] {
+    for value in [0, MOST_VALUE - 1, MOST_VALUE, MOST_VALUE + 1, u32::MAX] {
+        for place in [0, LEAST_SETUP - 1] {
             let mut setup = SETUP;
             setup[place] = value;
             add(cases, &setup, &[1000, 1001]);
@@ -89,15 +91,15 @@ fn values(cases: &mut Cases) {
             add(cases, &SETUP, &later);
         }
     }
-    add(cases, &[200_000; 64], &[200_000; 64]);
-    add(cases, &[200_000; 64], &[0; 64]);
-    let halves: Vec<u32> = (0..64).map(|index| 200_000 * (index % 2)).collect();
+    add(cases, &[MOST_VALUE; MOST_SETUP], &[MOST_VALUE; MOST_LATER]);
+    add(cases, &[MOST_VALUE; MOST_SETUP], &[0; MOST_LATER]);
+    let halves: Vec<u32> = [0, MOST_VALUE].repeat(MOST_SETUP / 2);
     add(cases, &halves, &halves);
 }
 
 /// Output of no words, one too short, exact and longer.
 fn rooms(cases: &mut Cases) {
-    for length in [0usize, 1, 6, 7, 64] {
+    for length in [0usize, 1, 6, 7, MOST_LATER] {
         let later: Vec<u32> = (0..length).map(|index| 1000 + index as u32 % 9).collect();
         for room in [0, length.saturating_sub(1), length, length + 1, 128] {
             add_with_room(cases, &SETUP, &later, room);
@@ -107,18 +109,21 @@ fn rooms(cases: &mut Cases) {
 
 /// Each pair of the refusals 9, 10 and 13 in one chart.
 fn competing(cases: &mut Cases) {
-    let bad = [200_001; 3];
-    add_with_room(cases, &SETUP[..9], &bad, 3);
-    add_with_room(cases, &[200_001; 9], &[1000], 1);
-    add_with_room(cases, &SETUP[..9], &[1000; 3], 2);
+    const BAD: u32 = MOST_VALUE + 1;
+    const FEW: usize = LEAST_SETUP - 1;
+    const MANY: usize = MOST_LATER + 1;
+    let bad = [BAD; 3];
+    add_with_room(cases, &SETUP[..FEW], &bad, 3);
+    add_with_room(cases, &[BAD; FEW], &[1000], 1);
+    add_with_room(cases, &SETUP[..FEW], &[1000; 3], 2);
     add_with_room(cases, &SETUP, &bad, 2);
-    add_with_room(cases, &[200_001; 10], &[1000], 0);
-    add_with_room(cases, &[200_001; 65], &[200_001; 65], 0);
-    add_with_room(cases, &SETUP, &[200_001; 65], 64);
-    add_with_room(cases, &SETUP, &[1000; 65], 64);
-    cases.add(11, &[&[9], &SETUP[..9], &bad[..]].concat());
+    add_with_room(cases, &[BAD; LEAST_SETUP], &[1000], 0);
+    add_with_room(cases, &[BAD; MOST_SETUP + 1], &[BAD; MANY], 0);
+    add_with_room(cases, &SETUP, &[BAD; MANY], MOST_LATER);
+    add_with_room(cases, &SETUP, &[1000; MANY], MOST_LATER);
+    cases.add(11, &[&[FEW as u32], &SETUP[..FEW], &bad[..]].concat());
     cases.add(11, &[0]);
-    cases.add(11, &[10, 0, 0, 0, 0, 0, 0, 0, 0, 0, 0]);
+    cases.add(11, &[&[LEAST_SETUP as u32], &[0; LEAST_SETUP][..]].concat());
 }
 
 /// Values on two and three deviations and beside, and charts without variance.
@@ -127,7 +132,7 @@ fn beyond(cases: &mut Cases) {
         add(cases, &SETUP, &[value]);
         add(cases, &SETUP, &[value, value]);
     }
-    for value in [0, 999, 1000, 1001, 200_000] {
+    for value in [0, 999, 1000, 1001, MOST_VALUE] {
         add(cases, &FLAT, &[value]);
         add(cases, &FLAT, &[value, value, 1000, value]);
     }
@@ -149,7 +154,7 @@ fn exactly_three_deviations(cases: &mut Cases) {
     let mut generator = Generator::new(701);
     let mut found = 0;
     while found < 24 {
-        let n = generator.pick(&[10, 10, 11, 17, 19, 26, 37, 50, 64]);
+        let n = generator.pick(&[LEAST_SETUP, LEAST_SETUP, 11, 17, 19, 26, 37, 50, MOST_SETUP]);
         let spread = generator.between(1, 12);
         let setup: Vec<u32> = (0..n).map(|_| 500 + generator.below(spread)).collect();
         let k = if found % 2 == 0 { 3 } else { 2 };
@@ -261,11 +266,11 @@ pub fn every_sum() -> Vec<(u32, Vec<u32>)> {
 fn scattered(cases: &mut Cases) {
     let mut generator = Generator::new(702);
     for _ in 0..220 {
-        let n = generator.pick(&[10, 11, 20, 40, 64]);
+        let n = generator.pick(&[LEAST_SETUP, 11, 20, 40, MOST_SETUP]);
         let spread = generator.pick(&[2, 10, 100, 2_000]);
         let setup: Vec<u32> = (0..n).map(|_| 3_000 + generator.below(spread)).collect();
         let drift = generator.below(spread);
-        let length = generator.pick(&[3, 8, 12, 20, 64]);
+        let length = generator.pick(&[3, 8, 12, 20, MOST_LATER as u32]);
         let later: Vec<u32> = (0..length)
             .map(|index| 2_900 + drift * index / 4 + generator.below(2 * spread))
             .collect();

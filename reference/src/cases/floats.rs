@@ -1,11 +1,10 @@
 //! Floats found by search: by their bits, without floating-point arithmetic.
 
+use crate::numbers::{MOST_AMOUNT, MOST_BITS, PER_MILLIGRAM};
 use crate::readings::Reading;
 
-/// The bits of 2^−10, the least quantification limit.
-pub const LEAST_LIMIT: u32 = 0x3A80_0000;
-/// The bits of 200.0, the greatest float of a reading.
-pub const GREATEST: u32 = 0x4348_0000;
+/// A float's double has the next greater exponent: what is added to its bits.
+pub const DOUBLE: u32 = 0x0080_0000;
 
 fn measured_amount(bits: u32) -> u32 {
     let amount = Reading::measured(bits).ok().and_then(Reading::amount);
@@ -16,7 +15,7 @@ fn measured_amount(bits: u32) -> u32 {
 /// The least float whose amount is at least this one. Floats without a sign
 /// are in the order of their bits, and a greater float has no smaller amount.
 pub fn least_float_of(amount: u32) -> u32 {
-    let (mut from, mut to) = (0, GREATEST + 1);
+    let (mut from, mut to) = (0, MOST_BITS + 1);
     while from < to {
         let middle = from + (to - from) / 2;
         if measured_amount(middle) >= amount {
@@ -37,10 +36,9 @@ pub fn float_of(amount: u32) -> u32 {
     first + (next - first) / 2
 }
 
-/// A quantification limit whose half has this amount: a float's double has the
-/// next greater exponent.
+/// A quantification limit whose half has this amount.
 pub fn limit_of(amount: u32) -> u32 {
-    float_of(amount) + 0x0080_0000
+    float_of(amount) + DOUBLE
 }
 
 /// The bits of numerator / 2^places, for a numerator of 1 to 2^24 − 1.
@@ -50,27 +48,41 @@ pub fn dyadic(numerator: u32, places: u32) -> u32 {
     ((127 + high_bit - places) << 23) + fraction
 }
 
-/// All floats up to 200.0 whose thousandfold is a whole number and a half,
-/// found among the whole numbers k: (2k + 1) / 2,000 is a float's value where
-/// 2k + 1 is a multiple of 125, as 2,000 is 16 × 125.
+/// All floats up to 200.0 whose amount before rounding is a whole number and a
+/// half, found among the whole numbers k: (2k + 1) / 2,000 is a float's value
+/// where 2k + 1 is a multiple of 125, as 2,000 is 16 × 125.
 pub fn ties() -> Vec<u32> {
-    (0..200_000)
-        .filter(|k| (2 * k + 1) % 125 == 0)
-        .map(|k| dyadic((2 * k + 1) / 125, 4))
+    let places = (2 * PER_MILLIGRAM).trailing_zeros();
+    let odd = (2 * PER_MILLIGRAM) >> places;
+    (0..MOST_AMOUNT)
+        .filter(|k| (2 * k + 1) % odd == 0)
+        .map(|k| dyadic((2 * k + 1) / odd, places))
         .collect()
 }
 
 #[cfg(test)]
 mod tests {
     use super::*;
+    use crate::numbers::{CARBON_LINE, MOST_BELOW, MOST_MILLIGRAMS};
 
     #[test]
     fn searched_floats_have_their_amounts() {
-        for amount in [0, 1, 2, 62, 63, 999, 5_000, 123_456, 199_999, 200_000] {
+        for amount in [
+            0,
+            1,
+            2,
+            62,
+            63,
+            999,
+            CARBON_LINE,
+            123_456,
+            MOST_AMOUNT - 1,
+            MOST_AMOUNT,
+        ] {
             assert_eq!(measured_amount(float_of(amount)), amount);
             assert_eq!(measured_amount(least_float_of(amount)), amount);
         }
-        for amount in [1, 63, 5_000, 99_999] {
+        for amount in [1, 63, CARBON_LINE, MOST_BELOW - 1] {
             let below = Reading::below(limit_of(amount)).map(Reading::amount);
             assert_eq!(below, Ok(Some(amount)));
         }
@@ -80,7 +92,7 @@ mod tests {
     fn dyadic_floats_are_the_machine_s() {
         assert_eq!(dyadic(1, 4), (1f32 / 16.0).to_bits());
         assert_eq!(dyadic(3_199, 4), (3_199f32 / 16.0).to_bits());
-        assert_eq!(dyadic(200, 0), GREATEST);
+        assert_eq!(dyadic(MOST_MILLIGRAMS, 0), MOST_BITS);
         assert_eq!(ties().len(), 1_600);
     }
 }

@@ -1,12 +1,13 @@
 //! Call 1: every floor, and p outside its range.
 
 use super::Cases;
+use crate::numbers::{LEAST_PH, MOST_PH};
 
 pub fn all(cases: &mut Cases) {
-    for p in 200..=1_000 {
+    for p in LEAST_PH..=MOST_PH {
         cases.add(1, &[p]);
     }
-    for p in [0, 1, 199, 1_001, 1_500, u32::MAX] {
+    for p in [0, 1, LEAST_PH - 1, MOST_PH + 1, 1_500, u32::MAX] {
         cases.add(1, &[p]);
     }
 }

@@ -1,12 +1,15 @@
 //! Call 7: each inequality on its limit and one step beside it.
 
 use super::bottle::Bottle;
-use super::floats::{float_of, least_float_of, limit_of};
+use super::floats::{float_of, least_float_of, limit_of, DOUBLE};
 use super::generator::Generator;
 use super::solver::{Bound, ENDS};
 use super::Cases;
 use crate::hydrogen::Ph;
-use crate::ions::{AMMONIUM, CHLORIDE, NITRATE, ORGANIC_CARBON, SODIUM, TOTAL_NITROGEN};
+use crate::numbers::{
+    AMMONIUM, BULK, CARBON_LINE, CHLORIDE, KINDS, LEAST_LIMIT_BITS, LEAST_PH, MOST_AMOUNT, MOST_PH,
+    NITRATE, ORGANIC_CARBON, RUNOFF, SODIUM, SOIL_WATER, TOTAL_NITROGEN,
+};
 
 pub fn all(cases: &mut Cases) {
     balance(cases);
@@ -31,7 +34,7 @@ fn on_and_beside(cases: &mut Cases, generator: &mut Generator, bound: Bound, ph:
 
 fn balance(cases: &mut Cases) {
     let mut generator = Generator::new(301);
-    for ph in (200..=1_000).step_by(100) {
+    for ph in (LEAST_PH..=MOST_PH).step_by(100) {
         for end in ENDS {
             for tenths in [1, 100, 200, 201, 1_000] {
                 on_and_beside(cases, &mut generator, Bound::Balance(tenths, end), ph);
@@ -76,7 +79,7 @@ fn classes(cases: &mut Cases) {
 /// 2 × 4350 × 2,821 is 2821 × 8,700, and 2 × 4350 × 2,821 is 3 × 2821 × 2,900:
 /// the ratio of charges is 0.5 and 1.5 exactly.
 fn sodium_chloride(cases: &mut Cases) {
-    for kind in 1..=6 {
+    for kind in KINDS {
         for (sodium, chloride) in [(2_821, 8_700), (2_821, 2_900), (5_642, 17_400)] {
             let bottle = Bottle::printed().kind(kind);
             for (sodium, chloride) in [
@@ -103,40 +106,46 @@ fn little_chloride(cases: &mut Cases, kind: u32) {
         cases.judge(&bottle.amount(SODIUM, 1));
         cases.judge(&bottle.missing(SODIUM));
     }
-    let below = Bottle::printed().kind(kind).below(CHLORIDE, 0x3A80_0000);
+    let below = Bottle::printed()
+        .kind(kind)
+        .below(CHLORIDE, LEAST_LIMIT_BITS);
     cases.judge(&below);
     cases.judge(&below.missing(SODIUM));
 }
 
 fn nitrogen(cases: &mut Cases) {
-    for kind in 1..=6 {
-        for (nitrate, ammonium) in [(0, 0), (1, 0), (250, 250), (63, 62), (100_000, 100_000)] {
+    for kind in KINDS {
+        let halves = (MOST_AMOUNT / 2, MOST_AMOUNT / 2);
+        for (nitrate, ammonium) in [(0, 0), (1, 0), (250, 250), (63, 62), halves] {
             let bottle = Bottle::printed().kind(kind);
             let bottle = bottle.amount(NITRATE, nitrate).amount(AMMONIUM, ammonium);
             let sum = nitrate + ammonium;
-            for total in [sum.saturating_sub(1), sum, (sum + 1).min(200_000)] {
+            for total in [sum.saturating_sub(1), sum, (sum + 1).min(MOST_AMOUNT)] {
                 cases.judge(&bottle.amount(TOTAL_NITROGEN, total));
             }
         }
-        let too_much = Bottle::printed().kind(kind).amount(NITRATE, 200_000);
-        cases.judge(&too_much.amount(TOTAL_NITROGEN, 200_000));
-        cases.judge(&too_much.below(TOTAL_NITROGEN, float_of(200_000)));
+        let too_much = Bottle::printed().kind(kind).amount(NITRATE, MOST_AMOUNT);
+        cases.judge(&too_much.amount(TOTAL_NITROGEN, MOST_AMOUNT));
+        cases.judge(&too_much.below(TOTAL_NITROGEN, float_of(MOST_AMOUNT)));
     }
 }
 
-/// Runoff's line, an amount of 4,999 or 5,000, measured and as half a limit.
+/// Runoff's line, the amount on it and the one before, measured and as half a
+/// limit.
 fn organic_carbon(cases: &mut Cases) {
-    let line = least_float_of(5_000);
-    for kind in [2, 5, 6] {
+    let line = least_float_of(CARBON_LINE);
+    let before = CARBON_LINE - 1;
+    for kind in [BULK, RUNOFF, SOIL_WATER] {
         let bottle = Bottle::printed().kind(kind);
-        for bits in [float_of(4_999), line - 1, line, float_of(5_000), 0] {
+        for bits in [float_of(before), line - 1, line, float_of(CARBON_LINE), 0] {
             cases.judge(&bottle.reading(ORGANIC_CARBON, 1, bits));
         }
-        for limit in [limit_of(4_999), line + 0x007F_FFFF, line + 0x0080_0000] {
+        for limit in [limit_of(before), line + DOUBLE - 1, line + DOUBLE] {
             cases.judge(&bottle.below(ORGANIC_CARBON, limit));
         }
-        cases.judge(&bottle.amount(ORGANIC_CARBON, 4_999).missing(CHLORIDE));
-        cases.judge(&bottle.amount(ORGANIC_CARBON, 5_000).missing(CHLORIDE));
+        for amount in [before, CARBON_LINE] {
+            cases.judge(&bottle.amount(ORGANIC_CARBON, amount).missing(CHLORIDE));
+        }
         cases.judge(&bottle.missing(ORGANIC_CARBON).missing(CHLORIDE));
     }
 }

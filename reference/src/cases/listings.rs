@@ -1,13 +1,26 @@
 //! Call 13: the listing program's text.
 
-use super::batches::{batch, chart, flat, small};
+use super::batches::{batch, chart, charts_counted, flat, samples_counted, small};
 use super::bottle::{plausible, Bottle};
 use super::generator::Generator;
 use super::Cases;
+use crate::listing::text;
+use crate::numbers::{AMMONIUM, MOST_ALKALINITY, MOST_CHARTS, READINGS, REPLAY_TEXT, WORD_BYTES};
+use crate::words::to_bytes;
 
 /// The listing of the first `length` bytes of these words.
 fn add(cases: &mut Cases, room: u32, length: usize, words: &[u32]) {
     cases.add(13, &[&[room, length as u32], words].concat());
+}
+
+/// The listing of all of these words.
+fn add_whole(cases: &mut Cases, room: u32, words: &[u32]) {
+    add(cases, room, WORD_BYTES * words.len(), words);
+}
+
+/// How long the text of these words is.
+fn text_length(words: &[u32]) -> u32 {
+    text(&to_bytes(words)).len() as u32
 }
 
 pub fn all(cases: &mut Cases) {
@@ -19,29 +32,32 @@ pub fn all(cases: &mut Cases) {
 
 /// Lengths that are no multiple of 4, and ends that come early.
 fn lengths(cases: &mut Cases) {
-    for length in 0..=12 {
-        add(cases, 12, length, &[0, 0, 0]);
-        add(cases, 12, length, &[11, 0, 0]);
+    for length in 0..=3 * WORD_BYTES {
+        add(cases, 12, length, &samples_counted(0, &[0]));
+        add(cases, 12, length, &charts_counted(MOST_CHARTS + 1, &[0, 0]));
     }
     let printed = batch(&[], &[Bottle::printed()]);
-    for length in [105, 106, 107, 108] {
+    let whole = WORD_BYTES * printed.len();
+    for length in whole - 3..=whole {
         add(cases, 20, length, &printed);
     }
-    add(cases, 20, 108, &[printed, vec![0, 0]].concat());
+    add(cases, 20, whole, &[printed, vec![0, 0]].concat());
 }
 
 /// Lent texts of no bytes, one too short, exact and longer.
 fn printed(cases: &mut Cases) {
     let printed = batch(&[], &[Bottle::printed()]);
-    for room in [0, 1, 2, 13, 14, 15, 40, 1_024] {
-        add(cases, room, 108, &printed);
+    let exact = text_length(&printed);
+    for room in [0, 1, 2, exact - 1, exact, exact + 1, 40, REPLAY_TEXT] {
+        add_whole(cases, room, &printed);
     }
     for room in [0, 1, 2, 3] {
-        add(cases, room, 8, &[0, 0]);
+        add_whole(cases, room, &batch(&[], &[]));
     }
     let small = small();
-    for room in [20, 26, 27, 28, 29, 30, 40] {
-        add(cases, room, 4 * small.len(), &small);
+    let exact = text_length(&small);
+    for room in [20].into_iter().chain(exact - 1..=exact + 3).chain([40]) {
+        add_whole(cases, room, &small);
     }
 }
 
@@ -53,15 +69,15 @@ fn refused(cases: &mut Cases) {
         batch(&[], &[printed.kind(0)]),
         batch(&[], &[printed.ph(0)]),
         batch(&[], &[printed.conductivity(0)]),
-        batch(&[], &[printed.alkalinity(200_001)]),
-        batch(&[], &[printed.reading(0, 3, 0)]),
-        vec![0, 1],
-        vec![11],
-        batch(&[chart(11, &flat(), &[])], &[]),
+        batch(&[], &[printed.alkalinity(MOST_ALKALINITY + 1)]),
+        batch(&[], &[printed.reading(AMMONIUM, 3, 0)]),
+        samples_counted(1, &[]),
+        charts_counted(MOST_CHARTS + 1, &[]),
+        batch(&[chart(READINGS as u32 + 1, &flat(), &[])], &[]),
     ];
     for words in batches {
         for room in [0, 9, 10, 11, 12, 30] {
-            add(cases, room, 4 * words.len(), &words);
+            add_whole(cases, room, &words);
         }
     }
 }
@@ -72,8 +88,9 @@ fn scattered(cases: &mut Cases) {
         let samples: Vec<Bottle> = (0..generator.between(1, 30))
             .map(|_| plausible(&mut generator))
             .collect();
-        let loud = chart(generator.between(1, 10), &flat(), &[1_001]);
+        let loud = chart(generator.between(1, READINGS as u32), &flat(), &[1_001]);
         let words = batch(&[loud], &samples);
-        add(cases, 640, 4 * words.len(), &words);
+        // More than thirty rows need.
+        add_whole(cases, 640, &words);
     }
 }

@@ -18,6 +18,7 @@ pub mod records;
 pub mod solver;
 pub mod undecided;
 
+use crate::numbers::{ALKALINITY, RECORD_WORDS};
 use bottle::Bottle;
 
 /// Cases for `replay`, one after another: the number of a call, a count, and
@@ -29,7 +30,12 @@ pub struct Cases {
 
 impl Cases {
     pub fn add(&mut self, call: u32, words: &[u32]) {
-        self.words.extend([call, words.len() as u32]);
+        self.begin(call, words.len(), words);
+    }
+
+    /// A case whose count may be more than the words that follow.
+    fn begin(&mut self, call: u32, count: usize, words: &[u32]) {
+        self.words.extend([call, count as u32]);
         self.words.extend(words);
     }
 
@@ -55,7 +61,7 @@ pub fn replay_input() -> Vec<u8> {
         charts::all,
         batches::all,
         listings::all,
-        |cases| cases.words.extend([7, 25, 7, 2, 500, 150]),
+        |cases| cases.begin(7, RECORD_WORDS, &Bottle::printed().words()[..ALKALINITY]),
     ];
     for subject in subjects {
         subject(&mut cases);

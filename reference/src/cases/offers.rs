@@ -5,7 +5,11 @@ use super::bottle::{plausible, Bottle};
 use super::generator::Generator;
 use super::undecided::undecided_conductivity;
 use super::Cases;
-use crate::ions::{CHLORIDE, SODIUM, TOTAL_NITROGEN};
+use crate::numbers::{
+    mark_of, AMMONIUM, CALCIUM, CHLORIDE, FIRST_READING, KIND, LEAST_PH, MOST_ALKALINITY,
+    MOST_NUMBER, NUMBER, ORGANIC_CARBON, RECORD_WORDS, SODIUM, SOIL_WATER, STEMFLOW, THROUGHFALL,
+    TOTAL_NITROGEN,
+};
 
 pub fn all(cases: &mut Cases) {
     for course in COURSES {
@@ -56,7 +60,7 @@ const COURSES: [&str; 40] = [
 /// and v.
 fn bottle_of(letter: char) -> Bottle {
     let doubtful = Bottle::doubtful();
-    let good = Bottle::printed().number(41).kind(3);
+    let good = Bottle::printed().number(41).kind(THROUGHFALL);
     match letter {
         // Doubtful ones: a, b and c don't agree; e agrees with a and with b.
         'b' => doubtful.ph(520),
@@ -69,11 +73,11 @@ fn bottle_of(letter: char) -> Bottle {
         'n' => good.missing(TOTAL_NITROGEN),
         // Another number, another kind, and refused records.
         'o' => doubtful.number(42),
-        'k' => doubtful.kind(4),
-        'x' => doubtful.ph(199),
-        'y' => doubtful.number(42).alkalinity(200_001),
-        'r' => doubtful.reading(0, 3, 0),
-        's' => doubtful.ph(520).reading(9, 0, 1),
+        'k' => doubtful.kind(STEMFLOW),
+        'x' => doubtful.ph(LEAST_PH - 1),
+        'y' => doubtful.number(42).alkalinity(MOST_ALKALINITY + 1),
+        'r' => doubtful.reading(AMMONIUM, 3, 0),
+        's' => doubtful.ph(520).reading(ORGANIC_CARBON, 0, 1),
         // Undecided, and the same bottle with other chloride.
         'u' => undecided(),
         'v' => undecided().amount(CHLORIDE, 9),
@@ -85,17 +89,20 @@ fn undecided() -> Bottle {
     undecided_conductivity().unwrap_or_else(Bottle::doubtful)
 }
 
-/// Offers that aren't 25 words, and a list that ends in the middle of one.
+/// Offers that aren't as long as a record, and a list that ends in the middle
+/// of one.
 fn odd_slices(cases: &mut Cases) {
     let doubtful = Bottle::doubtful();
     let a = doubtful.words();
-    add_slices(cases, &[&[], a, &a[..24], &[1], a, &[]]);
+    add_slices(cases, &[&[], a, &a[..RECORD_WORDS - 1], &[1], a, &[]]);
     add_slices(cases, &[&[a, &[0]].concat(), a]);
-    cases.add(9, &[&[25], a, &[25], &a[..7]].concat());
-    cases.add(9, &[25]);
+    let whole = &[RECORD_WORDS as u32];
+    cases.add(9, &[whole, a, whole, &a[..mark_of(CALCIUM)]].concat());
+    cases.add(9, whole);
     cases.add(9, &[u32::MAX, 1, 2]);
     cases.add(9, &[0, 0, 0]);
-    for length in [1, 24, 26, 49, 51, 74, 76] {
+    let beside = (1..=3).flat_map(|times| [times * RECORD_WORDS - 1, times * RECORD_WORDS + 1]);
+    for length in [1].into_iter().chain(beside) {
         let endless: Vec<u32> = a.iter().copied().cycle().take(length).collect();
         cases.add(16, &endless);
     }
@@ -118,14 +125,15 @@ pub fn scattered_list(generator: &mut Generator) -> Vec<Vec<u32>> {
 
 fn disturbed(generator: &mut Generator, mut words: Vec<u32>) -> Vec<u32> {
     match generator.below(16) {
-        0 => words[0] = words[0] % 999_999 + 1,
-        1 => words[1] = words[1] % 6 + 1,
+        0 => words[NUMBER] = words[NUMBER] % MOST_NUMBER + 1,
+        1 => words[KIND] = words[KIND] % SOIL_WATER + 1,
         2 => {
-            let place = generator.below(5) as usize;
+            // Beyond the range of any word before the readings.
+            let place = generator.below(FIRST_READING as u32) as usize;
             words[place] = 300_000_000;
         }
-        3 => words.truncate(generator.below(25) as usize),
-        4 => words[7] = 3,
+        3 => words.truncate(generator.below(RECORD_WORDS as u32) as usize),
+        4 => words[mark_of(CALCIUM)] = 3,
         _ => {}
     }
     words

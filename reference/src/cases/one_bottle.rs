@@ -2,7 +2,9 @@
 //! analysis agrees with the second.
 
 use super::bottle::Bottle;
-use crate::ions::{CALCIUM, CHLORIDE, SODIUM};
+use crate::numbers::{
+    mark_of, CALCIUM, CHLORIDE, MOST_ALKALINITY, MOST_PH, SODIUM, STEMFLOW, WORD_BYTES,
+};
 use crate::words::to_bytes;
 
 pub fn follow_input() -> Vec<u8> {
@@ -10,13 +12,13 @@ pub fn follow_input() -> Vec<u8> {
     let second = first.ph(531).conductivity(352).amount(CHLORIDE, 2_480);
     let third = second.ph(527).amount(CALCIUM, 1_071).amount(SODIUM, 1_880);
     let offers = [
-        first.ph(1_001),
+        first.ph(MOST_PH + 1),
         first.clone(),
         first.number(42),
         second.reading(CHLORIDE, 1, 0x8000_0000),
         second.clone(),
-        second.kind(4),
-        first.alkalinity(200_001).number(42),
+        second.kind(STEMFLOW),
+        first.alkalinity(MOST_ALKALINITY + 1).number(42),
         third.clone(),
         third.clone(),
         third.conductivity(0),
@@ -25,8 +27,10 @@ pub fn follow_input() -> Vec<u8> {
     for offer in &offers {
         bytes.extend(to_bytes(offer.words()));
     }
-    // A rest that is no whole record: seven words and two bytes.
-    bytes.extend(&to_bytes(third.words())[..30]);
+    // A rest that is no whole record: the words up to its second reading, and
+    // two bytes.
+    let rest = WORD_BYTES * mark_of(CALCIUM) + 2;
+    bytes.extend(&to_bytes(third.words())[..rest]);
     bytes
 }
 

@@ -2,24 +2,29 @@
 
 use super::bottle::Bottle;
 use super::Cases;
+use crate::numbers::{
+    bits_of, mark_of, reading_of, AMMONIUM, BULK, CALCIUM, ELEMENTS, KIND, LEAST_LIMIT_BITS,
+    MOST_BITS, READINGS, RECORD_WORDS, THROUGHFALL, WET_ONLY,
+};
+use crate::refusals::ALL;
 
 pub fn all(cases: &mut Cases) {
-    for place in 1..=13 {
-        cases.add(6, &[place]);
+    for place in 1..=ALL.len() {
+        cases.add(6, &[place as u32]);
     }
     presence(cases);
     samples(cases);
 }
 
 /// Marks and bits that are, or aren't, a reading that is present.
-const READINGS: [(u32, u32); 8] = [
+const MARKS_AND_BITS: [(u32, u32); 8] = [
     (0, 0),
     (0, 1),
     (1, 0),
-    (1, 0x4348_0001),
+    (1, MOST_BITS + 1),
     (1, 0x8000_0000),
-    (2, 0x3A80_0000),
-    (2, 0x3A7F_FFFF),
+    (2, LEAST_LIMIT_BITS),
+    (2, LEAST_LIMIT_BITS - 1),
     (3, 0x3F80_0000),
 ];
 
@@ -28,19 +33,20 @@ fn presence(cases: &mut Cases) {
     let mut ask = |element: u32, words: &[u32]| {
         cases.add(14, &[&[element], words].concat());
     };
-    for element in (0..=11).chain([255, 256, 257, u32::MAX]) {
+    for element in (0..=READINGS as u32 + 1).chain([255, 256, 257, u32::MAX]) {
         ask(element, printed.words());
     }
-    for element in 1..=10 {
-        for (mark, bits) in READINGS {
-            let bottle = printed.reading(element as usize - 1, mark, bits);
+    for element in ELEMENTS {
+        for (mark, bits) in MARKS_AND_BITS {
+            let bottle = printed.reading(reading_of(element), mark, bits);
             ask(element, bottle.words());
         }
     }
     // Another reading, or another word, that is refused changes nothing.
-    ask(1, printed.reading(1, 3, 0).words());
+    ask(1, printed.reading(CALCIUM, 3, 0).words());
     ask(1, printed.number(0).kind(9).ph(0).words());
-    for length in [0, 1, 6, 7, 24] {
+    // Also without a part of the first reading, and without all after it.
+    for length in [0, 1, bits_of(AMMONIUM), mark_of(CALCIUM), RECORD_WORDS - 1] {
         ask(1, &printed.words()[..length]);
     }
     ask(1, &[printed.words(), &[0]].concat());
@@ -53,18 +59,20 @@ fn samples(cases: &mut Cases) {
         cases.add(15, &[&[first.len() as u32], first, second].concat());
     };
     ask(words, words);
-    ask(words, Bottle::doubtful().number(7).kind(2).words());
+    ask(words, Bottle::doubtful().number(7).kind(BULK).words());
     ask(words, printed.number(8).words());
-    ask(words, printed.kind(3).words());
-    ask(printed.kind(1).words(), words);
+    ask(words, printed.kind(THROUGHFALL).words());
+    ask(printed.kind(WET_ONLY).words(), words);
+    // Number and kind exchanged.
     ask(printed.number(2).kind(7).words(), words);
     ask(printed.ph(0).words(), printed.conductivity(0).words());
     ask(printed.number(0).words(), printed.number(0).words());
-    ask(&words[..24], words);
-    ask(words, &words[..24]);
-    ask(&words[..24], &words[..24]);
-    ask(&words[..2], &words[..2]);
-    ask(&[words, &[0]].concat(), &words[..24]);
+    let (cut, beginning) = (&words[..RECORD_WORDS - 1], &words[..=KIND]);
+    ask(cut, words);
+    ask(words, cut);
+    ask(cut, cut);
+    ask(beginning, beginning);
+    ask(&[words, &[0]].concat(), cut);
     ask(&[words, &[0]].concat(), words);
     ask(&[], &[]);
     ask(&[], words);

@@ -1,8 +1,9 @@
 //! Calls 2 to 5: readings, analyses and amounts.
 
-use super::floats::{least_float_of, ties, GREATEST, LEAST_LIMIT};
+use super::floats::{least_float_of, ties, DOUBLE};
 use super::generator::Generator;
 use super::Cases;
+use crate::numbers::{LEAST_LIMIT_BITS, MOST_AMOUNT, MOST_BITS};
 
 const SIGN: u32 = 0x8000_0000;
 
@@ -15,17 +16,17 @@ pub const EDGES: [u32; 34] = [
     0x0080_0000, // the smallest normal
     0x0080_0001,
     0x3A00_0000, // 2^−11
-    LEAST_LIMIT - 1,
-    LEAST_LIMIT,
-    LEAST_LIMIT + 1,
+    LEAST_LIMIT_BITS - 1,
+    LEAST_LIMIT_BITS,
+    LEAST_LIMIT_BITS + 1,
     0x3D7F_FFFF,
     0x3D80_0000, // 1/16
     0x3D80_0001,
     0x3F80_0000, // 1
     0x4120_0000, // 10
-    GREATEST - 1,
-    GREATEST,
-    GREATEST + 1,
+    MOST_BITS - 1,
+    MOST_BITS,
+    MOST_BITS + 1,
     0x4380_0000, // 256
     0x7F7F_FFFF, // the greatest finite
     0x7F80_0000, // infinity
@@ -35,9 +36,9 @@ pub const EDGES: [u32; 34] = [
     SIGN, // minus zero
     SIGN | 1,
     SIGN | 0x0080_0000,
-    SIGN | LEAST_LIMIT,
+    SIGN | LEAST_LIMIT_BITS,
     SIGN | 0x3F80_0000,
-    SIGN | GREATEST,
+    SIGN | MOST_BITS,
     SIGN | 0x7F80_0000,
     SIGN | 0x7F80_0001,
     SIGN | 0x7FC0_0000,
@@ -75,8 +76,8 @@ fn analyses(cases: &mut Cases) {
 fn analyses_about_their_limits(cases: &mut Cases) {
     let mut generator = Generator::new(101);
     for _ in 0..200 {
-        let limit = generator.between(LEAST_LIMIT, GREATEST);
-        for value in [limit - 1, limit, limit + 1, generator.between(0, GREATEST)] {
+        let limit = generator.between(LEAST_LIMIT_BITS, MOST_BITS);
+        for value in [limit - 1, limit, limit + 1, generator.between(0, MOST_BITS)] {
             cases.add(3, &[value, limit]);
         }
     }
@@ -89,8 +90,8 @@ fn amounts_at_ties(cases: &mut Cases) {
         for bits in [tie - 1, tie, tie + 1] {
             cases.add(4, &[1, bits]);
         }
-        let limit = tie + 0x0080_0000;
-        if limit < GREATEST {
+        let limit = tie + DOUBLE;
+        if limit < MOST_BITS {
             for bits in [limit - 1, limit, limit + 1] {
                 cases.add(4, &[2, bits]);
             }
@@ -102,13 +103,13 @@ fn amounts_at_ties(cases: &mut Cases) {
 fn amounts_at_steps(cases: &mut Cases) {
     let mut generator = Generator::new(102);
     for _ in 0..600 {
-        let most = generator.pick(&[10, 1_000, 10_000, 200_000]);
+        let most = generator.pick(&[10, 1_000, 10_000, MOST_AMOUNT]);
         let first = least_float_of(generator.between(1, most));
         for bits in [first - 1, first] {
             cases.add(4, &[1, bits]);
         }
-        if first < 0x42C8_0000 {
-            for limit in [first + 0x007F_FFFF, first + 0x0080_0000] {
+        if first < MOST_BITS - DOUBLE {
+            for limit in [first + DOUBLE - 1, first + DOUBLE] {
                 cases.add(4, &[2, limit]);
             }
         }
@@ -118,8 +119,8 @@ fn amounts_at_steps(cases: &mut Cases) {
 fn scattered(cases: &mut Cases) {
     let mut generator = Generator::new(103);
     for _ in 0..800 {
-        cases.add(4, &[1, generator.between(0, GREATEST)]);
-        cases.add(4, &[1, generator.between(LEAST_LIMIT, GREATEST)]);
-        cases.add(4, &[2, generator.between(LEAST_LIMIT, GREATEST)]);
+        cases.add(4, &[1, generator.between(0, MOST_BITS)]);
+        cases.add(4, &[1, generator.between(LEAST_LIMIT_BITS, MOST_BITS)]);
+        cases.add(4, &[2, generator.between(LEAST_LIMIT_BITS, MOST_BITS)]);
     }
 }

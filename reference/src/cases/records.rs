@@ -1,10 +1,14 @@
 //! Call 7: proved cases, refused records, missing and below readings, scatter.
 
 use super::bottle::{plausible, Bottle};
-use super::floats::{float_of, limit_of, GREATEST};
+use super::floats::{float_of, limit_of};
 use super::generator::Generator;
 use super::Cases;
-use crate::record::READINGS;
+use crate::numbers::{
+    ALKALINITY, AMMONIUM, CONDUCTIVITY, FIRST_READING, KIND, KINDS, LEAST_LIMIT_BITS, LEAST_PH,
+    MOST_ALKALINITY, MOST_BITS, MOST_CONDUCTIVITY, MOST_NUMBER, MOST_PH, NUMBER, ORGANIC_CARBON,
+    PH, POTASSIUM, READINGS, RECORD_WORDS, SOIL_WATER, WET_ONLY,
+};
 
 pub fn all(cases: &mut Cases) {
     proved(cases);
@@ -35,33 +39,36 @@ fn proved(cases: &mut Cases) {
     cases.judge(&Bottle::printed());
 }
 
-/// Slices that aren't 25 words, some of them with another fault.
+/// Slices that aren't as long as a record, some of them with another fault.
 fn lengths(cases: &mut Cases) {
     let twice = [Bottle::printed().words(), Bottle::printed().words()].concat();
-    for length in [0, 1, 2, 5, 24, 26, 49, 50] {
+    for length in [0, 1, 2, FIRST_READING, RECORD_WORDS - 1, RECORD_WORDS + 1] {
+        cases.add(7, &twice[..length]);
+    }
+    for length in [twice.len() - 1, twice.len()] {
         cases.add(7, &twice[..length]);
     }
     let faulty = Bottle::printed().number(0).kind(0).ph(0);
-    cases.add(7, &faulty.words()[..24]);
+    cases.add(7, &faulty.words()[..RECORD_WORDS - 1]);
     cases.add(7, &[faulty.words(), &[0]].concat());
 }
 
-/// Words 0 to 4 out of their range: the word, and what it becomes.
+/// Words before the readings out of their range: the word, and what it becomes.
 const WORD_FAULTS: [(usize, u32); 14] = [
-    (0, 0),
-    (0, 1_000_000),
-    (0, u32::MAX),
-    (1, 0),
-    (1, 7),
-    (1, u32::MAX),
-    (2, 0),
-    (2, 199),
-    (2, 1_001),
-    (3, 0),
-    (3, 100_001),
-    (3, u32::MAX),
-    (4, 200_001),
-    (4, u32::MAX),
+    (NUMBER, 0),
+    (NUMBER, MOST_NUMBER + 1),
+    (NUMBER, u32::MAX),
+    (KIND, 0),
+    (KIND, SOIL_WATER + 1),
+    (KIND, u32::MAX),
+    (PH, 0),
+    (PH, LEAST_PH - 1),
+    (PH, MOST_PH + 1),
+    (CONDUCTIVITY, 0),
+    (CONDUCTIVITY, MOST_CONDUCTIVITY + 1),
+    (CONDUCTIVITY, u32::MAX),
+    (ALKALINITY, MOST_ALKALINITY + 1),
+    (ALKALINITY, u32::MAX),
 ];
 
 /// Marks and bits that are no reading.
@@ -72,12 +79,12 @@ const READING_FAULTS: [(u32, u32); 12] = [
     (0, 1),
     (0, 0x8000_0000),
     (1, 0x8000_0000),
-    (1, GREATEST + 1),
+    (1, MOST_BITS + 1),
     (1, 0x7F80_0000),
     (1, 0x7FC0_0000),
     (2, 0),
-    (2, 0x3A7F_FFFF),
-    (2, GREATEST + 1),
+    (2, LEAST_LIMIT_BITS - 1),
+    (2, MOST_BITS + 1),
 ];
 
 fn single_faults(cases: &mut Cases) {
@@ -92,6 +99,13 @@ fn single_faults(cases: &mut Cases) {
     }
 }
 
+/// Readings that are none in three places of a record.
+const READING_FAULTS_AT: [(usize, u32, u32); 3] = [
+    (AMMONIUM, 3, 0),
+    (POTASSIUM, 1, 0x8000_0000),
+    (ORGANIC_CARBON, 2, 0),
+];
+
 /// Two faults in one record: the one with the smaller number is answered.
 fn pairs_of_faults(cases: &mut Cases) {
     let printed = Bottle::printed();
@@ -101,7 +115,7 @@ fn pairs_of_faults(cases: &mut Cases) {
                 cases.judge(&printed.word(first, value).word(second, other_value));
             }
         }
-        for (place, mark, bits) in [(0, 3, 0), (4, 1, 0x8000_0000), (9, 2, 0)] {
+        for (place, mark, bits) in READING_FAULTS_AT {
             cases.judge(&printed.word(first, value).reading(place, mark, bits));
         }
     }
@@ -110,37 +124,38 @@ fn pairs_of_faults(cases: &mut Cases) {
 fn ends_of_ranges(cases: &mut Cases) {
     let printed = Bottle::printed();
     let ends = [
-        (0, [1, 999_999]),
-        (1, [1, 6]),
-        (2, [200, 1_000]),
-        (3, [1, 100_000]),
-        (4, [0, 200_000]),
+        (NUMBER, [1, MOST_NUMBER]),
+        (KIND, [WET_ONLY, SOIL_WATER]),
+        (PH, [LEAST_PH, MOST_PH]),
+        (CONDUCTIVITY, [1, MOST_CONDUCTIVITY]),
+        (ALKALINITY, [0, MOST_ALKALINITY]),
     ];
     for (word, values) in ends {
         for value in values {
             cases.judge(&printed.word(word, value));
         }
     }
-    for kind in 1..=6 {
+    for kind in KINDS {
         let most = (0..READINGS).fold(printed.kind(kind), |bottle, place| {
-            bottle.reading(place, 1, GREATEST)
+            bottle.reading(place, 1, MOST_BITS)
         });
         cases.judge(&most);
-        cases.judge(&most.alkalinity(200_000).conductivity(100_000).ph(200));
-        cases.judge(&most.alkalinity(200_000).conductivity(1).ph(201));
-        cases.judge(&most.conductivity(100_000).ph(999));
+        let alkaline = most.alkalinity(MOST_ALKALINITY);
+        cases.judge(&alkaline.conductivity(MOST_CONDUCTIVITY).ph(LEAST_PH));
+        cases.judge(&alkaline.conductivity(1).ph(LEAST_PH + 1));
+        cases.judge(&most.conductivity(MOST_CONDUCTIVITY).ph(MOST_PH - 1));
         let none = Bottle::without_ions().kind(kind);
-        cases.judge(&none.ph(1_000).conductivity(1));
-        cases.judge(&none.ph(999).conductivity(1));
-        cases.judge(&none.ph(200).conductivity(100_000));
-        cases.judge(&none.ph(201).conductivity(100_000));
+        cases.judge(&none.ph(MOST_PH).conductivity(1));
+        cases.judge(&none.ph(MOST_PH - 1).conductivity(1));
+        cases.judge(&none.ph(LEAST_PH).conductivity(MOST_CONDUCTIVITY));
+        cases.judge(&none.ph(LEAST_PH + 1).conductivity(MOST_CONDUCTIVITY));
     }
 }
 
 /// For each kind: nothing missing, each reading missing, each pair missing.
 fn missing_readings(cases: &mut Cases) {
-    for kind in 1..=6 {
-        let whole = Bottle::printed().kind(kind).amount(9, 3_000);
+    for kind in KINDS {
+        let whole = Bottle::printed().kind(kind).amount(ORGANIC_CARBON, 3_000);
         cases.judge(&whole);
         for first in 0..READINGS {
             for second in first..READINGS {
@@ -154,10 +169,10 @@ fn missing_readings(cases: &mut Cases) {
 
 /// A below reading counts as half its limit.
 fn below_readings(cases: &mut Cases) {
-    for kind in 1..=6 {
-        let whole = Bottle::printed().kind(kind).amount(9, 3_000);
+    for kind in KINDS {
+        let whole = Bottle::printed().kind(kind).amount(ORGANIC_CARBON, 3_000);
         for place in 0..READINGS {
-            for limit in [0x3A80_0000, float_of(500), limit_of(500), GREATEST] {
+            for limit in [LEAST_LIMIT_BITS, float_of(500), limit_of(500), MOST_BITS] {
                 cases.judge(&whole.below(place, limit));
             }
         }

@@ -8,7 +8,10 @@
 
 use super::bottle::Bottle;
 use super::generator::Generator;
-use crate::ions::{ALKALINITY_CONDUCTANCE, ANIONS, CATIONS, CHLORIDE, IONS, POTASSIUM, TABLE};
+use crate::ions::{ALKALINITY_CONDUCTANCE, ANIONS, CATIONS, TABLE};
+use crate::numbers::{
+    ALKALINITY_CHARGE, AMOUNT_CHARGE, CHLORIDE, IONS, MOST_ALKALINITY, MOST_AMOUNT, POTASSIUM,
+};
 
 /// An end of the span of hydrogen for which an inequality holds.
 #[derive(Clone, Copy, Debug, PartialEq, Eq)]
@@ -31,7 +34,7 @@ impl Bound {
     /// (unit, divisor): the end is unit × N / divisor u.
     pub fn unit_and_divisor(self) -> (i128, i128) {
         match self {
-            Bound::Balance(tenths, end) => (10_000, balance_weights(tenths, end).1),
+            Bound::Balance(tenths, end) => (AMOUNT_CHARGE, balance_weights(tenths, end).1),
             // 10^6 × N / 350,000
             Bound::Conductivity(..) => (20, 7),
         }
@@ -112,8 +115,11 @@ fn balance_ions(generator: &mut Generator, tenths: u32, end: End, n: i128) -> Op
     None
 }
 
+/// A tenth of a µeq/L in the unit of the ions' charges, 10^4 u.
+pub const TENTH_CHARGES: i128 = ALKALINITY_CHARGE / AMOUNT_CHARGE;
+
 /// Draws sulphate and nitrate, then searches the chloride that leaves a whole
-/// number of tenths of µeq/L (10^4 units) to alkalinity.
+/// number of tenths of µeq/L to alkalinity.
 fn anions_of(generator: &mut Generator, mut amounts: [u32; IONS], anions: i128) -> Option<Ions> {
     for amount in &mut amounts[ANIONS] {
         *amount = generator.below(6_000);
@@ -121,11 +127,11 @@ fn anions_of(generator: &mut Generator, mut amounts: [u32; IONS], anions: i128) 
     amounts[CHLORIDE] = 0;
     let rest = anions - charges(&amounts, ANIONS);
     let left = |chloride: i128| rest - chloride * TABLE[CHLORIDE].factor;
-    let fits = |&chloride: &i128| left(chloride) >= 0 && left(chloride) % 10_000 == 0;
+    let fits = |&chloride: &i128| left(chloride) >= 0 && left(chloride) % TENTH_CHARGES == 0;
     let chloride = (0..10_000).find(fits)?;
     amounts[CHLORIDE] = chloride as u32;
-    let alkalinity = u32::try_from(left(chloride) / 10_000).ok()?;
-    (alkalinity <= 200_000).then_some(Ions {
+    let alkalinity = u32::try_from(left(chloride) / TENTH_CHARGES).ok()?;
+    (alkalinity <= MOST_ALKALINITY).then_some(Ions {
         amounts,
         alkalinity,
     })
@@ -137,7 +143,7 @@ pub const fn conducted(ion: usize) -> i128 {
 }
 
 /// What one tenth of a µeq/L of alkalinity adds, in the same units.
-pub const CONDUCTED_BY_ALKALINITY: i128 = ALKALINITY_CONDUCTANCE * 10_000;
+pub const CONDUCTED_BY_ALKALINITY: i128 = ALKALINITY_CONDUCTANCE * TENTH_CHARGES;
 
 /// N is (100 ± M) × CM − 100 × R in units of 10^6 × 10^−13 µS/cm, so the parts
 /// R of the ions and of alkalinity must sum up to (100 ± M) × tenths × 10^6 − N.
@@ -187,11 +193,11 @@ fn split(rest: i128, a: i128, b: i128) -> Option<(u32, u32)> {
         return None;
     }
     let (step, mut remainder) = ((a % b) as i64, (rest % b) as i64);
-    let last = (rest / a).min(200_000) as u32;
+    let last = (rest / a).min(i128::from(MOST_AMOUNT)) as u32;
     for first in 0..=last {
         if remainder == 0 {
             let second = (rest - i128::from(first) * a) / b;
-            return (second <= 200_000).then_some((first, second as u32));
+            return (second <= i128::from(MOST_AMOUNT)).then_some((first, second as u32));
         }
         remainder -= step;
         if remainder < 0 {

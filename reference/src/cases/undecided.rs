@@ -9,7 +9,9 @@ use super::generator::Generator;
 use super::solver::{Bound, End, ENDS};
 use super::Cases;
 use crate::hydrogen::Ph;
-use crate::ions::ORGANIC_CARBON;
+use crate::numbers::{
+    AMOUNT_CHARGE, CARBON_LINE, LEAST_PH, MOST_PH, ORGANIC_CARBON, RUNOFF, SOIL_WATER,
+};
 
 pub fn all(cases: &mut Cases) {
     balance(cases);
@@ -18,7 +20,7 @@ pub fn all(cases: &mut Cases) {
 
 /// Every p at which hydrogen isn't whole, with its floor.
 fn broken_hydrogen() -> impl Iterator<Item = (u32, i128)> {
-    (200..=1_000).filter_map(|p| {
+    (LEAST_PH..=MOST_PH).filter_map(|p| {
         let ph = Ph::new(p).ok()?;
         (!ph.has_whole_hydrogen()).then(|| (p, i128::from(ph.floor())))
     })
@@ -37,7 +39,8 @@ fn before_in_and_after(
     for n in [last - 1, last, last + 1, last + 2] {
         if let Some(bottle) = bound.bottle(generator, p, n) {
             cases.judge(&bottle);
-            cases.judge(&bottle.kind(5).amount(ORGANIC_CARBON, 4_999));
+            let runoff = bottle.kind(RUNOFF);
+            cases.judge(&runoff.amount(ORGANIC_CARBON, CARBON_LINE - 1));
         }
     }
 }
@@ -51,7 +54,7 @@ fn balance(cases: &mut Cases) {
             for end in ENDS {
                 let bound = Bound::Balance(tenths, end);
                 let possible = bound.is_between(bound.last_up_to(h) + 1, h);
-                let on_an_end = h % 10_000 == 0 || (h + 1) % 10_000 == 0;
+                let on_an_end = h % AMOUNT_CHARGE == 0 || (h + 1) % AMOUNT_CHARGE == 0;
                 let now_and_then = p % 97 == 0;
                 if possible || on_an_end || now_and_then {
                     before_in_and_after(cases, &mut generator, bound, (p, h));
@@ -107,16 +110,17 @@ pub fn undecided_balance() -> Option<Bottle> {
 /// A bottle of soil water with undecided conductivity, and nothing else that
 /// could be outside or missing.
 pub fn undecided_conductivity() -> Option<Bottle> {
-    first_undecided(Bound::Conductivity(200, End::Greatest)).map(|bottle| bottle.kind(6))
+    first_undecided(Bound::Conductivity(200, End::Greatest)).map(|bottle| bottle.kind(SOIL_WATER))
 }
 
 #[cfg(test)]
 mod tests {
     use super::*;
     use crate::checks::{verdicts, Verdict};
+    use crate::numbers::{BALANCE_CHECK, CHECKS};
     use crate::record::Record;
 
-    fn numbers(bottle: Option<Bottle>) -> Option<[u32; 4]> {
+    fn numbers(bottle: Option<Bottle>) -> Option<[u32; CHECKS]> {
         let record = Record::read(bottle?.words()).ok()?;
         Some(verdicts(&record).map(Verdict::number))
     }
@@ -124,7 +128,7 @@ mod tests {
     #[test]
     fn verdict_3_is_found_by_search() {
         let balance = numbers(undecided_balance());
-        assert_eq!(balance.map(|verdicts| verdicts[0]), Some(3));
+        assert_eq!(balance.map(|verdicts| verdicts[BALANCE_CHECK]), Some(3));
         assert_eq!(numbers(undecided_conductivity()), Some([0, 3, 0, 0]));
     }
 }

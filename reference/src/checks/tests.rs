@@ -1,6 +1,7 @@
 use super::*;
 use crate::cases::bottle::{plausible, Bottle};
 use crate::cases::generator::Generator;
+use crate::numbers::{BALANCE_CHECK, CONDUCTIVITY_CHECK, RATIO_CHECK};
 
 fn record(bottle: &Bottle) -> Record {
     match Record::read(bottle.words()) {
@@ -9,7 +10,7 @@ fn record(bottle: &Bottle) -> Record {
     }
 }
 
-fn numbers(bottle: &Bottle) -> [u32; 4] {
+fn numbers(bottle: &Bottle) -> [u32; CHECKS] {
     verdicts(&record(bottle)).map(Verdict::number)
 }
 
@@ -19,7 +20,8 @@ fn proved_cases_5_to_8() {
         let bottle = Bottle::without_ions()
             .conductivity(200)
             .alkalinity(alkalinity);
-        assert_eq!(numbers(&bottle)[0], verdict, "alkalinity {alkalinity}");
+        let found = numbers(&bottle)[BALANCE_CHECK];
+        assert_eq!(found, verdict, "alkalinity {alkalinity}");
     }
 }
 
@@ -29,7 +31,8 @@ fn proved_cases_9_to_12() {
         let bottle = Bottle::without_ions()
             .conductivity(201)
             .alkalinity(alkalinity);
-        assert_eq!(numbers(&bottle)[0], verdict, "alkalinity {alkalinity}");
+        let found = numbers(&bottle)[BALANCE_CHECK];
+        assert_eq!(found, verdict, "alkalinity {alkalinity}");
     }
 }
 
@@ -37,7 +40,8 @@ fn proved_cases_9_to_12() {
 fn proved_cases_13_to_16() {
     for (tenths, verdict) in [(128, 2), (129, 1), (193, 1), (194, 2)] {
         let bottle = Bottle::printed().conductivity(tenths);
-        assert_eq!(numbers(&bottle)[1], verdict, "conductivity {tenths}");
+        let found = numbers(&bottle)[CONDUCTIVITY_CHECK];
+        assert_eq!(found, verdict, "conductivity {tenths}");
     }
 }
 
@@ -54,7 +58,7 @@ fn missing_readings_and_what_goes_before_them() {
     assert_eq!(numbers(&printed.missing(NITRATE)), [4, 4, 1, 4]);
     assert_eq!(numbers(&printed.missing(TOTAL_NITROGEN)), [1, 1, 1, 0]);
     let without_chloride = printed.amount(CHLORIDE, 0).missing(SODIUM);
-    assert_eq!(numbers(&without_chloride)[2], 0);
+    assert_eq!(numbers(&without_chloride)[RATIO_CHECK], 0);
     assert_eq!(
         numbers(&printed.kind(RUNOFF).missing(CHLORIDE)),
         [0, 4, 0, 1]
@@ -64,12 +68,14 @@ fn missing_readings_and_what_goes_before_them() {
 #[test]
 fn runoff_needs_little_organic_carbon() {
     let runoff = Bottle::printed().kind(RUNOFF);
-    assert_eq!(numbers(&runoff)[0], 0);
-    assert_eq!(numbers(&runoff.amount(ORGANIC_CARBON, 4_999))[0], 1);
-    assert_eq!(numbers(&runoff.amount(ORGANIC_CARBON, 5_000))[0], 0);
+    let balance = |bottle: &Bottle| numbers(bottle)[BALANCE_CHECK];
+    assert_eq!(balance(&runoff), 0);
+    let carbon = |amount: u32| runoff.amount(ORGANIC_CARBON, amount);
+    assert_eq!(balance(&carbon(CARBON_LINE - 1)), 1);
+    assert_eq!(balance(&carbon(CARBON_LINE)), 0);
     let ten = 10f32.to_bits();
-    assert_eq!(numbers(&runoff.below(ORGANIC_CARBON, ten))[0], 0);
-    assert_eq!(numbers(&runoff.below(ORGANIC_CARBON, ten - 2_000))[0], 1);
+    assert_eq!(balance(&runoff.below(ORGANIC_CARBON, ten)), 0);
+    assert_eq!(balance(&runoff.below(ORGANIC_CARBON, ten - 2_000)), 1);
 }
 
 #[test]
@@ -85,7 +91,8 @@ fn sodium_to_chloride_at_its_ends() {
         let bottle = Bottle::printed()
             .amount(SODIUM, sodium)
             .amount(CHLORIDE, chloride);
-        assert_eq!(numbers(&bottle)[2], verdict, "{sodium} to {chloride}");
+        let found = numbers(&bottle)[RATIO_CHECK];
+        assert_eq!(found, verdict, "{sodium} to {chloride}");
     }
 }
 

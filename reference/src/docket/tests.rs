@@ -2,7 +2,7 @@ use super::*;
 use crate::cases::bottle::Bottle;
 use crate::cases::generator::Generator;
 use crate::cases::offers::scattered_list;
-use crate::ions::{CHLORIDE, ORGANIC_CARBON, TOTAL_NITROGEN};
+use crate::numbers::{BULK, CHLORIDE, LEAST_PH, ORGANIC_CARBON, TOTAL_NITROGEN};
 
 /// A bottle with too little total nitrogen, so that it is never consistent.
 fn doubtful() -> Bottle {
@@ -76,11 +76,11 @@ fn a_refused_offer_changes_nothing() {
     let offers = [
         doubtful(),
         doubtful().number(8),
-        doubtful().kind(2),
-        doubtful().ph(199),
+        doubtful().kind(BULK),
+        doubtful().ph(LEAST_PH - 1),
         doubtful(),
         doubtful().number(8),
-        doubtful().ph(199),
+        doubtful().ph(LEAST_PH - 1),
     ];
     let (answers, state, count) = follow(&offers);
     let expected = [Ok(()), Err(12), Err(12), Err(4), Ok(()), Err(11), Err(4)];
@@ -91,7 +91,7 @@ fn a_refused_offer_changes_nothing() {
 #[test]
 fn dockets_that_no_offers_produce() {
     let bottle = doubtful();
-    let mut held = [0; LENGTH];
+    let mut held = [0; RECORD_WORDS];
     assert_eq!(offer(State::Open, 3, &held, bottle.words()), Err(11));
     assert_eq!(offer(State::Open, 1, &held, bottle.words()), Err(11));
     assert_eq!(offer(State::Open, 1, &held, &[]), Err(1));
@@ -111,7 +111,7 @@ fn the_docket_handed_on_is_the_plain_docket() {
     let mut generator = Generator::new(5);
     for list in 0..400 {
         let mut plain = PlainDocket::new();
-        let mut docket: Docket = (State::Open, 0, [list; LENGTH]);
+        let mut docket: Docket = (State::Open, 0, [list; RECORD_WORDS]);
         for slice in scattered_list(&mut generator) {
             let answer = offer(docket.0, docket.1, &docket.2, &slice);
             assert_eq!(answer.map(|_| ()), plain.offer(&slice));

@@ -1,0 +1,102 @@
+//! The numbers that draws and comparisons go by. Where words stand is the other
+//! implementation's to say, as its bottles and batches are what is drawn; how
+//! far values reach is said here once more, by document 01.
+
+// Some of these are for the faults or for tests alone.
+#[allow(unused_imports)]
+pub use reference::numbers::{
+    answer_words, bits_of, mark_of, ALKALINITY, AMMONIUM, BALANCE_CHECK, BITS, BULK, CALCIUM,
+    CHART_ELEMENT, CHART_HEAD, CHART_LATER, CHART_SETUP, CHECKS, CHLORIDE, CONDUCTIVITY,
+    CONDUCTIVITY_CHECK, CONDUCTIVITY_TENTH, COUNT_WORDS, FIRST_READING, IONS, KIND,
+    LEAST_LIMIT_BITS, MOST_BITS, MOST_BYTES, MOST_SAMPLES, NITRATE, NUMBER, ORGANIC_CARBON, PH,
+    POTASSIUM, READINGS, READINGS_END, READING_WORDS, RECORD_WORDS, ROW_FLAG, ROW_WORDS, RUNOFF,
+    SODIUM, SOIL_WATER, SULPHATE, TOTAL_NITROGEN, WET_ONLY, WORD_BYTES,
+};
+
+/// "sample number, 1 to 999,999"
+pub const MOST_NUMBER: u32 = 999_999;
+/// "pH in hundredths, called p, 200 to 1,000"
+pub const LEAST_PH: u32 = 200;
+pub const MOST_PH: u32 = 1_000;
+/// "measured conductivity in tenths of µS/cm, 1 to 100,000"
+pub const MOST_CONDUCTIVITY: u32 = 100_000;
+/// "alkalinity in tenths of µeq/L, 0 to 200,000"
+pub const MOST_ALKALINITY: u32 = 200_000;
+
+/// The words before the readings, each with its least and its greatest value.
+pub const RANGES: [(usize, u32, u32); 5] = [
+    (NUMBER, 1, MOST_NUMBER),
+    (KIND, WET_ONLY, SOIL_WATER),
+    (PH, LEAST_PH, MOST_PH),
+    (CONDUCTIVITY, 1, MOST_CONDUCTIVITY),
+    (ALKALINITY, 0, MOST_ALKALINITY),
+];
+
+/// 200 mg/L in µg/L, and half of that for a limit.
+pub const MOST_AMOUNT: u32 = 200_000;
+pub const MOST_BELOW: u32 = MOST_AMOUNT / 2;
+/// "DOC present and below 5,000 µg/L"
+pub const CARBON_LINE: u32 = 5_000;
+
+/// "10 to 64 setup values, then 0 to 64 later ones"
+pub const LEAST_SETUP: usize = 10;
+pub const MOST_SETUP: usize = 64;
+pub const MOST_LATER: usize = 64;
+/// "Values in µg/L, 0 to 200,000"
+pub const MOST_VALUE: u32 = 200_000;
+
+/// "charts (0 to 10: element 1 to 10 in reading order"
+pub const MOST_CHARTS: usize = 10;
+pub const MOST_ELEMENT: u32 = 10;
+/// Where the charts' count stands in a batch, and the first chart.
+pub const CHART_COUNT: usize = 0;
+pub const FIRST_CHART: usize = CHART_COUNT + COUNT_WORDS;
+
+/// A docket's words in the C interface: state, count, last record.
+pub const DOCKET_STATE: usize = 0;
+pub const DOCKET_COUNT: usize = 1;
+pub const DOCKET_RECORD: usize = 2;
+pub const DOCKET_WORDS: usize = DOCKET_RECORD + RECORD_WORDS;
+
+/// The longest slices lent for a docket and for a reading, and the longest
+/// offered as a record.
+pub const MOST_DOCKET_ROOM: usize = DOCKET_WORDS + 3;
+pub const MOST_READING_ROOM: usize = READING_WORDS + 2;
+pub const LONGEST_RECORD: usize = 2 * RECORD_WORDS + 10;
+/// How many canaries stand on each side of a lent slice: more than an answer
+/// could run over by one row and by one record.
+pub const MARGIN: usize = RECORD_WORDS + ROW_WORDS + 1;
+
+#[cfg(test)]
+mod tests {
+    use super::*;
+    use reference::numbers;
+
+    /// A limit that was changed in one place alone.
+    #[test]
+    fn the_other_implementation_says_the_same() {
+        for (here, there) in [
+            (MOST_NUMBER, numbers::MOST_NUMBER),
+            (LEAST_PH, numbers::LEAST_PH),
+            (MOST_PH, numbers::MOST_PH),
+            (MOST_CONDUCTIVITY, numbers::MOST_CONDUCTIVITY),
+            (MOST_ALKALINITY, numbers::MOST_ALKALINITY),
+            (MOST_AMOUNT, numbers::MOST_AMOUNT),
+            (CARBON_LINE, numbers::CARBON_LINE),
+            (MOST_VALUE, numbers::MOST_VALUE),
+            (MOST_CHARTS as u32, numbers::MOST_CHARTS),
+            (MOST_ELEMENT, *numbers::ELEMENTS.end()),
+            (LEAST_SETUP as u32, numbers::LEAST_SETUP as u32),
+            (MOST_SETUP as u32, numbers::MOST_SETUP as u32),
+            (MOST_LATER as u32, numbers::MOST_LATER as u32),
+        ] {
+            assert_eq!(here, there);
+        }
+    }
+
+    #[test]
+    fn every_word_before_the_readings_has_its_range() {
+        let places = RANGES.map(|(place, _, _)| place);
+        assert_eq!(places.to_vec(), (0..FIRST_READING).collect::<Vec<_>>());
+    }
+}
