@@ -68,31 +68,23 @@ impl Record {
 fn read_readings(words: &[u32; RECORD_WORDS]) -> Result<[Reading; READINGS], Refusal> {
     let mut readings = [Reading::Missing; READINGS];
     for (place, reading) in readings.iter_mut().enumerate() {
-        *reading = read_reading(words, place)?;
+        *reading = Reading::from_words(words[mark_of(place)], words[bits_of(place)])?;
     }
     Ok(readings)
 }
 
-/// The reading at a place, whatever else the words hold.
-pub fn read_reading(words: &[u32; RECORD_WORDS], place: usize) -> Result<Reading, Refusal> {
-    Reading::from_words(words[mark_of(place)], words[bits_of(place)])
-}
-
-/// Whether the slice is as long as a record, the element in its range, and that
-/// reading of it a reading that isn't missing.
+/// Whether the slice is a record, the element in its range, and that reading of
+/// it not missing.
 pub fn is_present(slice: &[u32], element: u32) -> bool {
-    let Ok(words) = <&[u32; RECORD_WORDS]>::try_from(slice) else {
-        return false;
-    };
-    let is_there = |reading: Reading| !reading.is_missing();
-    ELEMENTS.contains(&element) && read_reading(words, reading_of(element)).is_ok_and(is_there)
+    let has_reading = |record: Record| !record.readings[reading_of(element)].is_missing();
+    ELEMENTS.contains(&element) && Record::read(slice).is_ok_and(has_reading)
 }
 
-/// What refusal 12 compares: whether both slices are as long as a record, with
-/// the same number and the same kind.
+/// What refusal 12 compares: whether both slices are records, with the same
+/// number and the same kind.
 pub fn is_same_sample(first: &[u32], second: &[u32]) -> bool {
-    let are_whole = first.len() == RECORD_WORDS && second.len() == RECORD_WORDS;
-    are_whole && first[SAMPLE] == second[SAMPLE]
+    let are_records = Record::read(first).is_ok() && Record::read(second).is_ok();
+    are_records && first[SAMPLE] == second[SAMPLE]
 }
 
 #[cfg(test)]

@@ -1,6 +1,7 @@
 -- A sample at the front of the words: too short, refused or taken. And the rows made of those before it, from the start of
 -- the loop over the samples to each of its ends.
-use mathlib.Core.Path.{_≡_, refl, sym, ap, _∙_}
+use mathlib.Core.Path.{_≡_, refl, sym, ap, ap₂, _∙_}
+use mathlib.Core.Bool.{Bool}
 use mathlib.Core.List.{List, [], _∷_, _++_, append-assoc, append-nil}
 use Prim.Native.Nat.{ℕ, _+_, _-_, _*_, _≤_, _<_}
 use native.Mathlib.Omega.{arith}
@@ -10,12 +11,18 @@ use borrow.Author.Tests.{le-leb, lt-leb, eq-eqb, ne-eqb}
 use Rattle.refusal.specs.Outcome.Outcome.{given, refused}
 use Rattle.refusal.specs.Numbers.{numberOf}
 use Rattle.refusal.specs.declared.Refusal.the-variants as refusal
-use Rattle.record.specs.Record.{recordWords}
-use Rattle.judge.specs.Judgements.{Four, judgementOf}
+use Rattle.record.specs.declared.TestedRecord.{TestedRecord}
+use Rattle.record.specs.Record.{recordWords, mostNumber, hasReading}
+use Rattle.record.specs.Tested.{Fields, fieldsIn, termsOf, OwnTests, hasReadingIn}
+use Rattle.record.proofs.AcceptedLaws.{Valid}
+use Rattle.record.proofs.TestedLaws.{tested-fields, tested-reading}
+use Rattle.judge.specs.Judgements.{Four, judgementOf, judgedOf}
+use Rattle.judge.proofs.Laws.{judged-valid, judged-by-value}
 use Rattle.batch.specs.Batches.{Sample, mostSamples, sampleOf, samplesOf}
 use Rattle.batch.specs.Rows.{rowWords, mostAnswer, rowWith}
 use Rattle.refusal.specs.Lent.{placed}
-use Rattle.batch.specs.Steps.{flaggedBy, rowBy, rowsBy, samplesAnswer}
+use Rattle.batch.specs.Steps.{rowIn, rowBy, rowsBy, samplesAnswer}
+use Rattle.batch.proofs.FlagLaws.{flag-alike}
 use Rattle.refusal.proofs.PlaceLaws.{placed-take, length-placed}
 use Rattle.words.specs.FromFront.{Read, taken, many}
 use Rattle.words.specs.Placing.{placedWithin}
@@ -41,6 +48,19 @@ module _ (s : List ℕ) (h : recordWords ≤ length s) where
 
 -- ---- rows
 
+-- a row by the fields of a record that was tested and judged is the row of its words
+module _ {w : List ℕ} (own : TestedRecord) (t : OwnTests w own) {v : Four} (e : judgedOf (termsOf own) ≡ given v) where
+  valid : Valid w
+  valid = judged-valid w v (sym (judged-by-value w t) ∙ e)
+
+  pub number-most : own .number ≤ mostNumber
+  number-most = rw (ap (λ (f : Fields). f .number) (tested-fields t valid)) (valid .number .1)
+
+  row-by-value : (es gs : List ℕ) → rowIn own v es gs ≡ rowBy es gs (record { words = w; verdicts = v })
+  row-by-value es gs =
+      ap₂ (λ (n : ℕ) (flag : Bool). rowWith n v flag) (ap (λ (f : Fields). f .number) (tested-fields t valid))
+      (flag-alike es gs (hasReadingIn (fieldsIn own)) (hasReading w) (tested-reading t valid))
+
 rows-more : (es gs : List ℕ) (before : List Sample) (a : Sample) → rowsBy es gs (before ++ a ∷ []) ≡ rowsBy es gs before ++ rowBy es gs a
 unfolding rowsBy
 rows-more es gs [] a = append-nil (rowBy es gs a)
@@ -62,8 +82,10 @@ module _ (es gs words : List ℕ) where
 
 -- ---- the loop
 
--- i of count samples have been read, up to the index at, and their rows are the first words of the buffer
+-- i of count samples have been read, up to the index at, and their rows are the first words of the buffer. The charts' columns are of
+-- one length
 pub record Making (words : List ℕ) (count : ℕ) (es gs buffer : List ℕ) (at size i : ℕ) : Type 0 where
+  pub paired : length es ≡ length gs
   pub turns : i ≤ count
   pub few : count ≤ mostSamples
   pub inside : at ≤ length words
@@ -75,11 +97,12 @@ pub record Making (words : List ℕ) (count : ℕ) (es gs buffer : List ℕ) (at
   pub rows : take size buffer ≡ count ∷ rowsBy es gs before
 
 pub making-begins : (words : List ℕ) (count : ℕ) (es gs buffer : List ℕ)
-    → 1 ≤ length words → getD words 0 0 ≡ count → count ≤ mostSamples → length buffer ≡ mostAnswer → getD buffer 0 0 ≡ count
+    → length es ≡ length gs → 1 ≤ length words → getD words 0 0 ≡ count → count ≤ mostSamples → length buffer ≡ mostAnswer → getD buffer 0 0 ≡ count
     → Making words count es gs buffer 1 1 0
 unfolding rowsBy
-making-begins words count es gs buffer h e l b f =
+making-begins words count es gs buffer p h e l b f =
     record {
+      paired = p;
       turns = omega arith;
       few = l;
       inside = h;
@@ -96,21 +119,23 @@ module _ (words : List ℕ) (count : ℕ) (es gs buffer : List ℕ) (at size i :
   abbrev lent : List ℕ
   lent = take (at + recordWords - at) (drop at words)
 
-  same-judgement : judgementOf (take recordWords (drop at words)) ≡ judgementOf lent
-  same-judgement = ap judgementOf (sym (part-of words at recordWords))
+  same : lent ≡ take recordWords (drop at words)
+  same = part-of words at recordWords
 
   -- a turn: the sample is taken, and its row placed
-  pub making-next : (v : Four) (row after : List ℕ) → i < count → at + recordWords ≤ length words
-      → judgementOf lent ≡ given v → row ≡ rowWith lent v (flaggedBy es gs lent) → after ≡ placedWithin buffer size row
+  pub making-next : (own : TestedRecord) (v : Four) (row after : List ℕ) → i < count → at + recordWords ≤ length words
+      → OwnTests lent own → judgedOf (termsOf own) ≡ given v → row ≡ rowIn own v es gs → after ≡ placedWithin buffer size row
       → Making words count es gs after (at + recordWords) (size + rowWords) (i + 1)
-  making-next v row after l h e r put =
+  making-next own v row after l h t e r put =
       let a : Sample = record { words = take recordWords (drop at words); verdicts = v } in
-      let same : row ≡ rowBy es gs a = r ∙ ap (λ (w : List ℕ). rowWith w v (flaggedBy es gs w)) (part-of words at recordWords) in
-      let six : length row ≡ rowWords = ap length same in
+      let here : OwnTests (a .words) own = rw same at t in
+      let is : row ≡ rowBy es gs a = r ∙ row-by-value own here e es gs in
+      let six : length row ≡ rowWords = ap length is in
       let fits : size + length row ≤ length buffer = omega (arith, m .few, m .made, m .room, six) in
       let p = put ∙ placed-all buffer size row fits in
       let long : recordWords ≤ length (drop at words) = omega (arith, length-drop at words) in
       record {
+        paired = m .paired;
         turns = omega arith;
         few = m .few;
         inside = h;
@@ -119,13 +144,13 @@ module _ (words : List ℕ) (count : ℕ) (es gs buffer : List ℕ) (at size i :
         before = m .before ++ a ∷ [];
         counted = length-append (m .before) (a ∷ []) ∙ ap (λ (n : ℕ). n + 1) (m .counted);
         rest = m .rest
-            ∙ many-next sampleAfter count i (m .before) (drop at words) l (sample-taken (drop at words) long v (same-judgement ∙ e))
+            ∙ many-next sampleAfter count i (m .before) (drop at words) l (sample-taken (drop at words) long v (sym (judged-by-value (a .words) here) ∙ e))
             ∙ ap (many sampleAfter (count - (i + 1)) (m .before ++ a ∷ [])) (drop-drop recordWords at words);
         rows = ap (take (size + rowWords)) p
             ∙ ap (λ (n : ℕ). take (size + n) (placed buffer size row)) (sym six)
             ∙ placed-take buffer row size fits
             ∙ ap (λ (t : List ℕ). t ++ row) (m .rows)
-            ∙ ap (λ (t : List ℕ). count ∷ (rowsBy es gs (m .before) ++ t)) same
+            ∙ ap (λ (t : List ℕ). count ∷ (rowsBy es gs (m .before) ++ t)) is
             ∙ ap (λ (t : List ℕ). count ∷ t) (sym (rows-more es gs (m .before) a));
       }
 
@@ -139,10 +164,12 @@ module _ (words : List ℕ) (count : ℕ) (es gs buffer : List ℕ) (at size i :
       let short : length (drop at words) < recordWords = omega (arith, length-drop at words, m .inside) in
       refused-there _ l (sample-short (drop at words) short)
 
-  pub making-refused : (n : ℕ) → i < count → at + recordWords ≤ length words → judgementOf lent ≡ refused n → samplesAnswer es gs words ≡ refused n
-  making-refused n l h e =
+  pub making-refused : (own : TestedRecord) (n : ℕ) → i < count → at + recordWords ≤ length words → OwnTests lent own → judgedOf (termsOf own) ≡ refused n
+      → samplesAnswer es gs words ≡ refused n
+  making-refused own n l h t e =
+      let here : OwnTests (take recordWords (drop at words)) own = rw same at t in
       let long : recordWords ≤ length (drop at words) = omega (arith, length-drop at words) in
-      refused-there n l (sample-refused (drop at words) long n (same-judgement ∙ e))
+      refused-there n l (sample-refused (drop at words) long n (sym (judged-by-value _ here) ∙ e))
 
   all-read : count ≤ i → samplesOf words ≡ taken (m .before) (drop at words)
   all-read l = m .rest ∙ many-none sampleAfter count i (m .before) (drop at words) l

@@ -55,11 +55,12 @@ unfoldable pub flagged : List Chart → List ℕ → Bool
 flagged [] w = false
 flagged (c ∷ cs) w = (not (eqb (signalOf c) 0) && hasReading w (c .element)) || flagged cs w
 
-abbrev pub rowWith : List ℕ → Four → Bool → List ℕ
-rowWith w v flag = sampleNumber w ∷ v .balance ∷ v .conductivity ∷ v .ratio ∷ v .nitrogen ∷ cond flag 1 0 ∷ []
+-- of a sample's number, verdicts and flag
+abbrev pub rowWith : ℕ → Four → Bool → List ℕ
+rowWith number v flag = number ∷ v .balance ∷ v .conductivity ∷ v .ratio ∷ v .nitrogen ∷ cond flag 1 0 ∷ []
 
 abbrev pub rowOf : List Chart → Sample → List ℕ
-rowOf cs a = rowWith (a .words) (a .verdicts) (flagged cs (a .words))
+rowOf cs a = rowWith (sampleNumber (a .words)) (a .verdicts) (flagged cs (a .words))
 
 unfoldable pub rowsOf : List Chart → List Sample → List ℕ
 rowsOf cs [] = []

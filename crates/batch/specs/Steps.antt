@@ -11,19 +11,26 @@ use Rattle.refusal.specs.Outcome.Outcome.{given, refused}
 use Rattle.refusal.specs.Numbers.{numberOf}
 use Rattle.refusal.specs.declared.Written.{Written}
 use Rattle.refusal.specs.declared.Written.the-variants as written
-use Rattle.record.specs.Record.{hasReading}
+use Rattle.record.specs.Record.{sampleNumber, hasReading}
+use Rattle.record.specs.declared.TestedRecord.{TestedRecord}
+use Rattle.record.specs.Tested.{fieldsIn, hasReadingIn}
+use Rattle.judge.specs.Judgements.{Four}
 use Rattle.words.specs.FromFront.{then}
 use Rattle.batch.specs.Batches.{Sample, samplesOf, nothingLeft}
 use Rattle.batch.specs.Rows.{rowWith}
 
--- `flagged` by the columns
-unfoldable pub flaggedBy : List ℕ → List ℕ → List ℕ → Bool
-flaggedBy [] gs w = false
-flaggedBy (e ∷ es) [] w = false
-flaggedBy (e ∷ es) (g ∷ gs) w = (not (eqb g 0) && hasReading w e) || flaggedBy es gs w
+-- `flagged` by the columns, and by what tells of an element whether it is there: of a record's words, or of its fields
+unfoldable pub flaggedBy : List ℕ → List ℕ → (ℕ → Bool) → Bool
+flaggedBy [] gs has = false
+flaggedBy (e ∷ es) [] has = false
+flaggedBy (e ∷ es) (g ∷ gs) has = (not (eqb g 0) && has e) || flaggedBy es gs has
 
 abbrev pub rowBy : List ℕ → List ℕ → Sample → List ℕ
-rowBy es gs a = rowWith (a .words) (a .verdicts) (flaggedBy es gs (a .words))
+rowBy es gs a = rowWith (sampleNumber (a .words)) (a .verdicts) (flaggedBy es gs (hasReading (a .words)))
+
+-- the row of a judged record, by its fields
+abbrev pub rowIn : TestedRecord → Four → List ℕ → List ℕ → List ℕ
+rowIn own v es gs = rowWith (own .number) v (flaggedBy es gs (hasReadingIn (fieldsIn own)))
 
 unfoldable pub rowsBy : List ℕ → List ℕ → List Sample → List ℕ
 rowsBy es gs [] = []

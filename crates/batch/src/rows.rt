@@ -1,31 +1,38 @@
 // The rows of an answer.
 use crate::ROW_WORDS;
 use judge::Verdicts;
+use record::TestedRecord;
 ghost use mathlib.Core.Path.{_≡_};
 ghost use mathlib.Core.Bool.{_&&_, not, cond};
+ghost use Prim.Native.Nat.{_≤_};
 ghost use lib.Dec.{eqb};
 ghost use lib.ListN.{length};
-ghost use Rattle.record.specs.Record.{recordWords, hasReading};
+ghost use Rattle.record.specs.Record.{mostNumber};
+ghost use Rattle.record.specs.Tested.{fieldsIn, hasReadingIn};
 ghost use Rattle.judge.specs.Judgements.{numbersOf};
-ghost use Rattle.batch.specs.Rows.{rowWith};
-ghost use Rattle.batch.specs.Steps.{flaggedBy};
+ghost use Rattle.batch.specs.Steps.{flaggedBy, rowIn};
 
-// The row of a judged record.
-pub fn row(words: &[u32], verdicts: Verdicts, elements: &[u32], signals: &[u32]) -> [u32; ROW_WORDS]
-    requires { ⌜ (length (now words) ≡ recordWords) × (length (now elements) ≡ length (now signals)) ⌝ }
-    ensures { λ r. ⌜ r ≡ rowWith (now (words .entry)) (numbersOf verdicts) (flaggedBy (now (elements .entry)) (now (signals .entry)) (now (words .entry))) ⌝ }
+// The row of a judged record, whose number fits a word.
+pub fn row(
+    own: TestedRecord,
+    verdicts: Verdicts,
+    elements: &[u32],
+    signals: &[u32],
+) -> [u32; ROW_WORDS]
+    requires { ⌜ (own .number ≤ mostNumber) × (length (now elements) ≡ length (now signals)) ⌝ }
+    ensures { λ r. ⌜ r ≡ rowIn own (numbersOf verdicts) (now (elements .entry)) (now (signals .entry)) ⌝ }
 {
     let balance = verdicts.balance;
     let conductivity = verdicts.conductivity;
     let ratio = verdicts.ratio;
     let nitrogen = verdicts.nitrogen;
     [
-        words[record::NUMBER],
+        own.number as u32,
         balance.number(),
         conductivity.number(),
         ratio.number(),
         nitrogen.number(),
-        flag(flagged(words, elements, signals)),
+        flag(flagged(own, elements, signals)),
     ]
 }
 
@@ -36,13 +43,13 @@ fn flag(is_flagged: bool) -> u32
 }
 
 // Whether some chart has a signal, and its element is not missing in the record.
-fn flagged(words: &[u32], elements: &[u32], signals: &[u32]) -> bool
+fn flagged(own: TestedRecord, elements: &[u32], signals: &[u32]) -> bool
     requires { ⌜ length (now elements) ≡ length (now signals) ⌝ }
-    ensures { λ r. ⌜ r ≡ flaggedBy (now (elements .entry)) (now (signals .entry)) (now (words .entry)) ⌝ }
+    ensures { λ r. ⌜ r ≡ flaggedBy (now (elements .entry)) (now (signals .entry)) (hasReadingIn (fieldsIn own)) ⌝ }
 {
     let mut i: usize = 0;
     while i < elements.len() {
-        if flagged_by(words, elements[i], signals[i]) {
+        if flagged_by(own, elements[i], signals[i]) {
             return true;
         }
         i += 1;
@@ -50,11 +57,11 @@ fn flagged(words: &[u32], elements: &[u32], signals: &[u32]) -> bool
     false
 }
 
-fn flagged_by(words: &[u32], element: u32, signal: u32) -> bool
-    ensures { λ r. ⌜ r ≡ (not (eqb signal 0) && hasReading (now (words .entry)) element) ⌝ }
+fn flagged_by(own: TestedRecord, element: u32, signal: u32) -> bool
+    ensures { λ r. ⌜ r ≡ (not (eqb signal 0) && hasReadingIn (fieldsIn own) element) ⌝ }
 {
     if signal == 0 {
         return false;
     }
-    record::has_reading(words, element)
+    record::has_reading(own, element)
 }

@@ -29,7 +29,8 @@ pub fn make_rows(words: &[u32], elements: &[u32], signals: &[u32], buffer: &mut 
     make_all(words, first as usize, elements, signals, buffer)
 }
 
-// Makes a row for each of so many samples, after the section's count.
+// Makes a row for each of so many samples, after the section's count. A record is tested once: its verdicts and its row are
+// made from the fields that the tests hand on.
 fn make_all(
     words: &[u32],
     count: usize,
@@ -49,10 +50,10 @@ fn make_all(
         if words.len() < end {
             return Written::Refused(Refusal::BatchLength);
         }
-        let record = &words[at..end];
-        match judge::judge(record) {
+        let own = record::test(&words[at..end]);
+        match judge::judge_tested(own) {
             Judgement::Judged(verdicts) => {
-                let row = rows::row(record, verdicts, elements, signals);
+                let row = rows::row(own, verdicts, elements, signals);
                 words::place(&row, buffer, size);
                 at = end;
                 size += ROW_WORDS;

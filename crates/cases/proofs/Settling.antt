@@ -15,7 +15,7 @@ use Rattle.reading.specs.Ranges.{inRange, isValue}
 use Rattle.reading.specs.Readings.{missingFrom, measuredFrom, readingOf}
 use Rattle.reading.specs.Amounts.{Amount, nearest, valueMass, valueAmount}
 use Rattle.reading.specs.Analytes.{massOf}
-use Rattle.record.specs.Record.{phOf, conductivityOf, alkalinityOf, readAt, readingAt, massAt, allBelow, accepted, acceptedRest}
+use Rattle.record.specs.Record.{sampleNumber, phOf, conductivityOf, alkalinityOf, readAt, readingAt, massAt, allBelow, accepted, acceptedRest}
 use Rattle.solution.specs.Ions.{cationFactor, anionFactor, conductance, sum}
 use Rattle.judge.specs.Choices.{Ranges}
 use Rattle.judge.specs.Verdicts.{applied}
@@ -121,5 +121,5 @@ settle [] t = tt
 settle (c ∷ cs) t = (holds c (and-l (test c) (tests cs) t), settle cs (and-r (test c) (tests cs) t))
 
 pub settled : Settled cases
-unfolding cases power inRange valueMass nearest ofBits accepted acceptedRest allBelow readAt readingAt readingOf missingFrom measuredFrom massOf valueAmount sum cationFactor anionFactor conductance balanceApplies balanceLimit conductivityLimit decided
+unfolding cases power inRange valueMass nearest ofBits accepted acceptedRest sampleNumber allBelow readAt readingAt readingOf missingFrom measuredFrom massOf valueAmount sum cationFactor anionFactor conductance balanceApplies balanceLimit conductivityLimit decided
 settled = settle cases tt

@@ -6,7 +6,10 @@ use Prim.Native.Nat.{ℕ}
 use Rattle.refusal.specs.Outcome.{Outcome, isGiven}
 use Rattle.refusal.specs.Outcome.Outcome.{given, refused}
 use Rattle.refusal.proofs.Outcomes.{never}
+use Rattle.record.specs.declared.TestedRecord.{TestedRecord}
+use Rattle.record.specs.Tested.{fieldsIn, sameSampleIn, OwnTests}
 use Rattle.record.proofs.AcceptedLaws.{Valid, accepted-given, valid-accepted, refused-for-all}
+use Rattle.record.proofs.TestedLaws.{tested-sample}
 use Rattle.agreement.specs.Agreement.{agreementOf}
 use Rattle.agreement.proofs.Laws.{compared-valid, valid-compared}
 use Rattle.judge.specs.Judgements.{Four, verdictsOf, judgementOf}
@@ -30,6 +33,16 @@ module _ (s : List ℕ) where
   pub judged-refuses : {n : ℕ} → judgementOf s ≡ refused n → acceptanceOf s ≡ refused n
   unfolding judgementOf acceptanceOf
   judged-refuses e = refused-for-all s (verdictsOf s) _ e (given tt)
+
+-- how two tested records compare: whether they are of one sample is asked only where both are records
+pub compared-held : {s t : List ℕ} {one other : TestedRecord} → OwnTests s one → OwnTests t other
+    → comparedBy (agreementOf s t) (sameSampleIn (fieldsIn one) (fieldsIn other)) ≡ comparisonOf s t
+unfolding comparisonOf
+compared-held {s} {t} {one} {other} a b = by-agreement (agreementOf s t) refl
+  where
+    by-agreement : (o : Outcome Bool) → agreementOf s t ≡ o → comparedBy o (sameSampleIn (fieldsIn one) (fieldsIn other)) ≡ comparedBy o (sameSampleOf s t)
+    by-agreement (given agree) e = let w = compared-valid s t agree e in ap (comparedBy (given agree)) (tested-sample a b (w .0) (w .1))
+    by-agreement (refused n) e = refl
 
 -- what a comparison with an accepted record t says of the one before it, s
 abbrev pub Told : List ℕ → List ℕ → Outcome Compared → Type 0

@@ -12,6 +12,9 @@ ghost use Rattle.reading.specs.Readings.{analysedOf, readingOf, wordsOf,
 ghost use Rattle.reading.specs.Amounts.{amountOf, AmountLaws};
 ghost use Rattle.reading.specs.Analytes.{present, analyteFrom};
 
+// The scale of an amount, µg in a mg, for a crate that says how great amounts are.
+pub use rounding::PER_MILLIGRAM;
+
 // What the analyser holds for a reading, in mg/L: the form that document 01 names, a struct with two f32 fields.
 pub struct Analysed {
     pub value: f32,

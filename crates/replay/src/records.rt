@@ -59,7 +59,8 @@ pub fn has_reading(words: &[u32]) -> bool {
     if words.len() == 0 {
         return false;
     }
-    if record::has_reading(&words[1..], words[0]) {
+    let own = record::test(&words[1..]);
+    if record::has_reading(own, words[0]) {
         print::text(b"present");
     } else {
         print::text(b"absent");
@@ -72,7 +73,9 @@ fn same_parts(count: u32, words: &[u32]) -> bool {
     if n > words.len() {
         return false;
     }
-    if record::same_sample(&words[0..n], &words[n..]) {
+    let one = record::test(&words[0..n]);
+    let other = record::test(&words[n..]);
+    if record::same_sample(one, other) {
         print::text(b"same");
     } else {
         print::text(b"other");

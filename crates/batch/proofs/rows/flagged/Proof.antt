@@ -3,16 +3,17 @@ use mathlib.Core.Path.{_≡_, refl, sym, _∙_}
 use Prim.Native.Nat.{_-_, _≤_}
 use lib.ListN.{length, drop}
 use borrow.Author.Needs.{needs}
+use Rattle.record.specs.Tested.{fieldsIn, hasReadingIn}
 use Rattle.batch.specs.Steps.{flaggedBy}
 use Rattle.batch.proofs.FlagLaws.{flag-found, flag-next, flag-end}
 use Rattle.batch.proofs.rows.flagged.Statement.{statement}
 use Rattle.batch.proofs.rows.flagged.Tie as tie
 
 abbrev Inv-loop : tie.InvT-loop
-Inv-loop words elements signals i₀ i = (i ≤ length elements) × (flaggedBy elements signals words ≡ flaggedBy (drop i elements) (drop i signals) words)
+Inv-loop own elements signals i₀ i = (i ≤ length elements) × (flaggedBy elements signals (hasReadingIn (fieldsIn own)) ≡ flaggedBy (drop i elements) (drop i signals) (hasReadingIn (fieldsIn own)))
 
 abbrev μ-loop : tie.MeasureT-loop
-μ-loop words elements signals i₀ i = length elements - i
+μ-loop own elements signals i₀ i = length elements - i
 
 loop-holds : tie.Need-loop-holds Inv-loop μ-loop
 loop-holds c = (search needs, refl)

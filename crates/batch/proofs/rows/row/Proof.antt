@@ -1,10 +1,10 @@
--- Each word of the row is what its call ensures.
+-- The number fits a word, and each other word of the row is what its call ensures.
 use borrow.Author.Needs.{needs}
 use Rattle.batch.proofs.rows.row.Statement.{statement}
 use Rattle.batch.proofs.rows.row.Tie as tie
 
-shared-slice-read-t10 : tie.Need-shared-slice-read-t10
-shared-slice-read-t10 c = search needs
+cast-t9 : tie.Need-cast-t9
+cast-t9 c = search needs
 
 number-requires : tie.Need-number-requires
 number-requires c κs = search needs
@@ -36,7 +36,7 @@ pub row-spec : {M : Type 1} → statement M
 row-spec =
     tie.close
     (tie.spec
-    shared-slice-read-t10
+    cast-t9
     number-requires
     number-requires-2
     number-requires-3

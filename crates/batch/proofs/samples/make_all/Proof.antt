@@ -4,8 +4,7 @@ use mathlib.Core.Path.{sym, ap, _∙_}
 use Prim.Native.Nat.{_-_}
 use borrow.Author.Needs.{needs}
 use Rattle.judge.specs.Judgements.{judgementOutcome}
-use Rattle.judge.proofs.Laws.{judged-length}
-use Rattle.batch.proofs.SampleLaws.{Making, making-begins, making-next, making-short, making-refused, making-left, making-done}
+use Rattle.batch.proofs.SampleLaws.{number-most, Making, making-begins, making-next, making-short, making-refused, making-left, making-done}
 use Rattle.batch.proofs.samples.make_all.Statement.{statement}
 use Rattle.batch.proofs.samples.make_all.Tie as tie
 
@@ -27,28 +26,32 @@ same-length c = search needs
 returns : tie.Need-returns Inv-loop μ-loop
 returns c = search making-short
 
-mul-record : tie.Need-mul-record Inv-loop μ-loop
-mul-record c = search needs
+mul-test : tie.Need-mul-test Inv-loop μ-loop
+mul-test c = search needs
 
-sub-record : tie.Need-sub-record Inv-loop μ-loop
-sub-record c = search needs
+sub-test : tie.Need-sub-test Inv-loop μ-loop
+sub-test c = search needs
 
-part-record-start : tie.Need-part-record-start Inv-loop μ-loop
-part-record-start c = search needs
+part-test-start : tie.Need-part-test-start Inv-loop μ-loop
+part-test-start c = search needs
 
-part-record-end : tie.Need-part-record-end Inv-loop μ-loop
-part-record-end c = search needs
+part-test-end : tie.Need-part-test-end Inv-loop μ-loop
+part-test-end c = search needs
 
-judge-requires : tie.Need-judge-requires Inv-loop μ-loop
-judge-requires c κs = search needs
+test-requires : tie.Need-test-requires Inv-loop μ-loop
+test-requires c κs = search needs
+
+judge-tested-requires : tie.Need-judge-tested-requires Inv-loop μ-loop
+judge-tested-requires c κs = search needs
 
 enum-known-verdicts : tie.Need-enum-known-verdicts Inv-loop μ-loop
 enum-known-verdicts c = search needs
 
 row-requires : tie.Need-row-requires Inv-loop μ-loop
 row-requires c κs =
-    let j = c .before .before .before in
-    (judged-length _ _ (sym (j .judge .ensures .0) ∙ ap judgementOutcome (c .before .verdicts .given .1)), search needs)
+    let judging = c .before .before .before in
+    let turn = judging .before .before .before .before .before in
+    (number-most (judging .before .test .result) (record { answered = judging .before .test .ensures }) (sym (judging .judge-tested .ensures) ∙ ap judgementOutcome (c .before .verdicts .given .1)), turn .loop .inv .paired)
 
 slice-aggregate-place : tie.Need-slice-aggregate-place Inv-loop μ-loop
 slice-aggregate-place c = search needs
@@ -70,9 +73,10 @@ loop-again c =
     let placing = c .before .before in
     let told = placing .before .before .before .before in
     let judging = told .before .before .before in
-    let turn = judging .before .before .before .before in
-    making-next _ _ _ _ _ _ _ _ (turn .loop .inv) _ _ _ (search needs) (search needs)
-    (sym (judging .judge .ensures .0) ∙ ap judgementOutcome (told .before .verdicts .given .1))
+    let turn = judging .before .before .before .before .before in
+    making-next _ _ _ _ _ _ _ _ (turn .loop .inv) (judging .before .test .result) _ _ _ (search needs) (search needs)
+    (record { answered = judging .before .test .ensures })
+    (sym (judging .judge-tested .ensures) ∙ ap judgementOutcome (told .before .verdicts .given .1))
     (placing .before .before .before .row .ensures)
     (placing .place .ensures)
 
@@ -85,9 +89,10 @@ same-length-2 c = search needs
 returns-2 : tie.Need-returns-2 Inv-loop μ-loop
 returns-2 c =
     let judging = c .before .before .before in
-    let turn = judging .before .before .before .before in
-    making-refused _ _ _ _ _ _ _ _ (turn .loop .inv) _ (search needs) (search needs)
-    (sym (judging .judge .ensures .0) ∙ ap judgementOutcome (c .before .why .given .1))
+    let turn = judging .before .before .before .before .before in
+    making-refused _ _ _ _ _ _ _ _ (turn .loop .inv) (judging .before .test .result) _ (search needs) (search needs)
+    (record { answered = judging .before .test .ensures })
+    (sym (judging .judge-tested .ensures) ∙ ap judgementOutcome (c .before .why .given .1))
 
 same-length-3 : tie.Need-same-length-3 Inv-loop μ-loop
 same-length-3 c = search needs
@@ -113,11 +118,12 @@ make-all-spec =
     add-end
     same-length
     returns
-    mul-record
-    sub-record
-    part-record-start
-    part-record-end
-    judge-requires
+    mul-test
+    sub-test
+    part-test-start
+    part-test-end
+    test-requires
+    judge-tested-requires
     enum-known-verdicts
     row-requires
     slice-aggregate-place
