@@ -16,7 +16,8 @@ use Rattle.record.specs.Record.{recordWords, mostNumber, hasReading}
 use Rattle.record.specs.Tested.{Fields, fieldsIn, termsOf, OwnTests, hasReadingIn}
 use Rattle.record.proofs.AcceptedLaws.{Valid}
 use Rattle.record.proofs.TestedLaws.{tested-fields, tested-reading}
-use Rattle.judge.specs.Judgements.{Four, judgementOf, judgedOf}
+use Rattle.judge.specs.Judgements.{Four, judgementOf}
+use Rattle.judge.specs.ByValue.{judgedOf}
 use Rattle.judge.proofs.Laws.{judged-valid, judged-by-value}
 use Rattle.batch.specs.Batches.{Sample, mostSamples, sampleOf, samplesOf}
 use Rattle.batch.specs.Rows.{rowWords, mostAnswer, rowWith}

@@ -9,20 +9,18 @@ use lib.Ieee.Bits.{is-true}
 use lib.Ieee.Fits.{and-l, and-r}
 use Rattle.refusal.specs.Outcome.{Outcome, isGiven}
 use Rattle.refusal.specs.Outcome.Outcome.{given, refused}
-use Rattle.hydrogen.specs.Floors.{leastPh, greatestPh, power, floorAt, floorOf}
+use Rattle.hydrogen.specs.Floors.{leastPh, greatestPh, hundredth, power, floorAt, floorOf}
 use Rattle.hydrogen.proofs.Laws.{floor-in-range, floor-is}
 use Rattle.reading.specs.Ranges.{inRange, isValue}
 use Rattle.reading.specs.Readings.{missingFrom, measuredFrom, readingOf}
 use Rattle.reading.specs.Amounts.{Amount, nearest, valueMass, valueAmount}
 use Rattle.reading.specs.Analytes.{massOf}
-use Rattle.record.specs.Record.{sampleNumber, phOf, conductivityOf, alkalinityOf, readAt, readingAt, massAt, allBelow, accepted, acceptedRest}
+use Rattle.record.specs.Record.{sampleNumber, phOf, readAt, readingAt, allBelow, accepted, acceptedRest}
 use Rattle.solution.specs.Ions.{cationFactor, anionFactor, conductance, sum}
-use Rattle.judge.specs.Choices.{Ranges}
-use Rattle.judge.specs.Verdicts.{applied}
-use Rattle.judge.specs.Corners.{decided, passesOf}
-use Rattle.solution.specs.Solutions.{isWhole, ionsKnown, measuredOf}
-use Rattle.judge.specs.IonBalance.{balanceApplies, balanceAppliesTo, balanceLimit, balanceCheck}
-use Rattle.judge.specs.Conductivity.{conductivityLimit, conductivityCheck}
+use Rattle.judge.specs.Ranges.{rangesWith}
+use Rattle.judge.specs.Corners.{decided}
+use Rattle.judge.specs.IonBalance.{balanceApplies, balanceLimit, ionBalanceOver}
+use Rattle.judge.specs.Conductivity.{conductivityLimit, conductivityOver}
 use Rattle.judge.specs.Judgements.{verdictsOf, judgementOf}
 use Rattle.record.proofs.AcceptedLaws.{Valid, accepted-given}
 use Rattle.judge.proofs.Laws.{valid-judged}
@@ -30,16 +28,16 @@ use Rattle.cases.specs.Cases.{Case, bare, printed, balanceIn, conductivi
 
 -- h is the greatest number whose hundredth power is at most that of H
 abbrev isFloor : ℕ → ℕ → Bool
-isFloor p h = leb (h ^ 100) (power p) && ltb (power p) ((h + 1) ^ 100)
+isFloor p h = leb (hundredth h) (power p) && ltb (power p) (hundredth (h + 1))
 
 abbrev inPhRange : ℕ → Bool
 inPhRange p = leb leastPh p && leb p greatestPh
 
 floor-is-at : (p h : ℕ) → T (isFloor p h) → floorAt p ≡ h
 floor-is-at p h t =
-    let low : Bool = leb (h ^ 100) (power p) in
-    let high : Bool = ltb (power p) ((h + 1) ^ 100) in
-    floor-is p h (leb→le (h ^ 100) (power p) (and-l low high t)) (ltb→lt (power p) ((h + 1) ^ 100) (and-r low high t))
+    let low : Bool = leb (hundredth h) (power p) in
+    let high : Bool = ltb (power p) (hundredth (h + 1)) in
+    floor-is p h (leb→le (hundredth h) (power p) (and-l low high t)) (ltb→lt (power p) (hundredth (h + 1)) (and-r low high t))
 
 floor-case : (p h : ℕ) → T (inPhRange p && isFloor p h) → floorOf p ≡ given h
 floor-case p h t =
@@ -53,32 +51,31 @@ unfolding valueAmount
 amount-case x m t = rw (is-true (isValue x) (and-l (isValue x) (eqb (valueMass x) m) t), eqb→eq (valueMass x) m (and-r (isValue x) (eqb (valueMass x) m) t))
 
 -- both kinds of record have p 500, whose floor is 10^10. The check's verdict with a floor in place of the definition's, which is never computed
-abbrev floor500 : ℕ
-floor500 = 10_000_000_000
+abbrev p500 : ℕ
+p500 = 500
 
-abbrev at : List ℕ → Ranges
-at s = record { least = massAt s; greatest = massAt s; floor = floor500; whole = isWhole (phOf s) }
+abbrev floor500 : ℕ
+floor500 = 10 ^ 10
 
 abbrev balanceAt : List ℕ → ℕ
-balanceAt s = applied (balanceAppliesTo s) (ionsKnown s) (passesOf (balanceCheck (balanceLimit (conductivityOf s)) (alkalinityOf s)) (at s))
+balanceAt s = ionBalanceOver s (rangesWith s floor500)
 
 abbrev conductivityAt : List ℕ → ℕ
-conductivityAt s =
-    applied true (ionsKnown s) (passesOf (conductivityCheck (conductivityLimit (conductivityOf s)) (alkalinityOf s) (measuredOf (conductivityOf s))) (at s))
+conductivityAt s = conductivityOver s (rangesWith s floor500)
 
 abbrev nothing : Outcome ℕ
 nothing = given 0
 
 -- the record's own tests accept it, and its pH is 5
 abbrev isAccepted : List ℕ → Bool
-isAccepted s = isGiven (accepted s nothing) && (eqb (phOf s) 500 && isFloor 500 floor500)
+isAccepted s = isGiven (accepted s nothing) && (eqb (phOf s) p500 && isFloor p500 floor500)
 
 module _ (s : List ℕ) (t : T (isAccepted s)) where
-  rest : T (eqb (phOf s) 500 && isFloor 500 floor500)
-  rest = and-r (isGiven (accepted s nothing)) (eqb (phOf s) 500 && isFloor 500 floor500) t
+  rest : T (eqb (phOf s) p500 && isFloor p500 floor500)
+  rest = and-r (isGiven (accepted s nothing)) (eqb (phOf s) p500 && isFloor p500 floor500) t
 
   judged : judgementOf s ≡ given (verdictsOf s)
-  judged = valid-judged s (was-accepted (accepted s nothing) refl (is-true _ (and-l (isGiven (accepted s nothing)) (eqb (phOf s) 500 && isFloor 500 floor500) t)))
+  judged = valid-judged s (was-accepted (accepted s nothing) refl (is-true _ (and-l (isGiven (accepted s nothing)) (eqb (phOf s) p500 && isFloor p500 floor500) t)))
     where
       was-accepted : (o : Outcome ℕ) → accepted s nothing ≡ o → isGiven o ≡ true → Valid s
       was-accepted (given x) e h = accepted-given s nothing x e .0
@@ -86,8 +83,8 @@ module _ (s : List ℕ) (t : T (isAccepted s)) where
 
   floor-at : floorAt (phOf s) ≡ floor500
   floor-at =
-      ap floorAt (eqb→eq (phOf s) 500 (and-l (eqb (phOf s) 500) (isFloor 500 floor500) rest))
-      ∙ floor-is-at 500 floor500 (and-r (eqb (phOf s) 500) (isFloor 500 floor500) rest)
+      ap floorAt (eqb→eq (phOf s) p500 (and-l (eqb (phOf s) p500) (isFloor p500 floor500) rest))
+      ∙ floor-is-at p500 floor500 (and-r (eqb (phOf s) p500) (isFloor p500 floor500) rest)
 
   balance-case : (v : ℕ) → T (eqb (balanceAt s) v) → balanceIn (judgementOf s) ≡ given v
   balance-case v e = ap balanceIn judged ∙ ap given (rw floor-at (eqb→eq (balanceAt s) v e))

@@ -2,33 +2,33 @@
 use mathlib.Core.Path.{_≡_, refl, sym, _∙_}
 use mathlib.Core.Bool.{Bool, true, false, _&&_, Bool·beq}
 use mathlib.Core.List.{List, [], _∷_}
-use Prim.Native.Nat.{ℕ, _+_, _-_, _%_, _^_, _≤_, _<_}
+use Prim.Native.Nat.{ℕ, _+_, _-_, _≤_, _<_}
 use native.Mathlib.Nat.{lt-of-le-of-lt}
 use native.Mathlib.Omega.{arith}
 use lib.Dec.{T, leb, ltb, eqb, leb→le, ltb→lt}
 use lib.ListN.{getD}
 use lib.Ieee.Fits.{and-l, and-r}
 use borrow.Author.Tests.{eqb-true, eq-eqb}
-use Rattle.hydrogen.specs.Floors.{leastPh, greatestPh, power, floorAt}
+use Rattle.hydrogen.specs.Floors.{leastPh, greatestPh, isWhole, hundredth, power, floorAt}
 use Rattle.hydrogen.specs.TrueHydrogen.{FloorRule}
 use Rattle.hydrogen.proofs.Entries.{every, at}
 use Rattle.hydrogen.proofs.Powers.{lt-back}
 use Rattle.hydrogen.proofs.Root.{floor-is}
 
--- the rule as three tests: x to the hundredth is at most the power of H at p, x + 1 to the hundredth is above it, and it is equal exactly where 100 divides p
+-- the rule as three tests: x to the hundredth is at most the power of H at p, x + 1 to the hundredth is above it, and it is equal exactly at a whole pH
 abbrev low : ℕ → ℕ → Bool
-low p x = leb (x ^ 100) (power p)
+low p x = leb (hundredth x) (power p)
 
 abbrev high : ℕ → ℕ → Bool
-high p x = ltb (power p) ((x + 1) ^ 100)
+high p x = ltb (power p) (hundredth (x + 1))
 
 abbrev exact : ℕ → ℕ → Bool
-exact p x = Bool·beq (eqb (p % 100) 0) (eqb (x ^ 100) (power p))
+exact p x = Bool·beq (isWhole p) (eqb (hundredth x) (power p))
 
 abbrev right : ℕ → ℕ → Bool
 right p x = low p x && (high p x && exact p x)
 
--- the table of the code
+-- the code's table again, since a proof can't name a constant of the code: that of `table::row` finds each of the code's rows in it
 unfoldable pub floors : List ℕ
 floors =
     10000000000000 ∷ 9772372209558 ∷ 9549925860214 ∷ 9332543007969 ∷ 9120108393559 ∷ 8912509381337 ∷ 8709635899560 ∷ 8511380382023 ∷
@@ -148,11 +148,11 @@ same false false t = refl
 rule-of : (p x : ℕ) → T (right p x) → FloorRule p x
 rule-of p x t =
     record {
-      low = leb→le (x ^ 100) (power p) (and-l (low p x) (high p x && exact p x) t);
+      low = leb→le (hundredth x) (power p) (and-l (low p x) (high p x && exact p x) t);
       high = is-high;
       exact = (
-        λ w. eqb-true (x ^ 100) (power p) (sym is-exact ∙ eq-eqb (p % 100) 0 w),
-        λ e. eqb-true (p % 100) 0 (is-exact ∙ eq-eqb (x ^ 100) (power p) e),
+        λ w. eqb-true (hundredth x) (power p) (sym is-exact ∙ w),
+        λ e. is-exact ∙ eq-eqb (hundredth x) (power p) e,
       );
       greatest = λ y l. omega (arith, lt-back {a = y} {b = x + 1} (lt-of-le-of-lt l is-high));
     }
@@ -160,11 +160,11 @@ rule-of p x t =
     rest : T (high p x && exact p x)
     rest = and-r (low p x) (high p x && exact p x) t
 
-    is-high : power p < (x + 1) ^ 100
-    is-high = ltb→lt (power p) ((x + 1) ^ 100) (and-l (high p x) (exact p x) rest)
+    is-high : power p < hundredth (x + 1)
+    is-high = ltb→lt (power p) (hundredth (x + 1)) (and-l (high p x) (exact p x) rest)
 
-    is-exact : eqb (p % 100) 0 ≡ eqb (x ^ 100) (power p)
-    is-exact = same (eqb (p % 100) 0) (eqb (x ^ 100) (power p)) (and-r (high p x) (exact p x) rest)
+    is-exact : isWhole p ≡ eqb (hundredth x) (power p)
+    is-exact = same (isWhole p) (eqb (hundredth x) (power p)) (and-r (high p x) (exact p x) rest)
 
 module _ (p : ℕ) (l : leastPh ≤ p) (u : p ≤ greatestPh) where
   entry-rule : FloorRule p (getD floors (p - leastPh) 0)

@@ -3,18 +3,17 @@ use mathlib.Core.Path.{_≡_, ap}
 use mathlib.Core.Bool.{or-true}
 use mathlib.Core.Logic.{_↔_, _⊎_, inl, inr, ⊎-elim}
 use Prim.Native.Nat.{ℕ, _+_, _-_, _*_, _^_, _≤_, _<_}
-use native.Mathlib.Nat.{le-trans, lt-of-le-of-lt, pow-le-pow-right, zero-lt-suc, sub-add-cancel, mul-le-mul-left}
+use native.Mathlib.Nat.{le-trans, pow-le-pow-right, sub-add-cancel, mul-le-mul-left}
 use native.Mathlib.Decide.{decLt}
 use native.Mathlib.Omega.{arith}
-use lib.Dec.{ltb, lit<}
+use lib.Dec.{ltb, lit≤, lit<}
 use lib.IntN.{pos, subℕ}
 use borrow.Author.Tests.{lt-ltb, le-ltb}
 use Rattle.refusal.specs.Outcome.Outcome.{given, refused}
 use Rattle.refusal.specs.Numbers.{numberOf}
 use Rattle.refusal.specs.declared.Refusal.the-variants as refusal
-use Rattle.hydrogen.specs.Floors.{leastPh, greatestPh, power, floorAt, floorOf}
-use Rattle.hydrogen.specs.TrueHydrogen.{FractionLe, HydrogenAt}
-use Rattle.hydrogen.proofs.Powers.{lt-back}
+use Rattle.hydrogen.specs.Floors.{leastPh, greatestPh, hundredth, power, floorAt, mostFloor, floorOf}
+use Rattle.hydrogen.specs.TrueHydrogen.{FractionLe, FloorRule, HydrogenAt}
 use Rattle.hydrogen.proofs.Root as root
 use Rattle.hydrogen.proofs.FloorTable.{floor-rule}
 use Rattle.hydrogen.proofs.Placing.{placing}
@@ -25,19 +24,25 @@ pub hydrogen-at : (p : ℕ) → leastPh ≤ p → p ≤ greatestPh → HydrogenA
 hydrogen-at p l u = record { rule = floor-rule p l u; placed = placing p (floorAt p) (floor-rule p l u); ordered = ordered p }
 
 -- the two bounds name the floor
-pub floor-is : (p h : ℕ) → h ^ 100 ≤ power p → power p < (h + 1) ^ 100 → floorAt p ≡ h
+pub floor-is : (p h : ℕ) → hundredth h ≤ power p → power p < hundredth (h + 1) → floorAt p ≡ h
 floor-is p h low high = root.floor-is p h low high
 
--- no floor is above 10^13
-pub floor-most : (p : ℕ) → leastPh ≤ p → p ≤ greatestPh → floorAt p ≤ 10000000000000
+-- the floor at the least pH, by its rule, and that no floor is above it: what the hundredth power is up to falls as p rises
+pub floor-at-least : floorAt leastPh ≡ mostFloor
 unfolding power
-floor-most p l u = omega (arith, lt-back {a = floorAt p} {b = 10000000000001} below)
-  where
-    fewer : 1500 - p ≤ 1300
-    fewer = omega arith
+floor-at-least = root.floor-is leastPh mostFloor (lit≤ tt) (lit< tt)
 
-    below : floorAt p ^ 100 < 10000000000001 ^ 100
-    below = lt-of-le-of-lt (le-trans (floor-rule p l u .low) (pow-le-pow-right (zero-lt-suc 9) fewer)) (lit< tt)
+falls : (b n l p : ℕ) → 0 < b → l ≤ p → b ^ (n - p) ≤ b ^ (n - l)
+falls b n l p some h = let fewer : n - p ≤ n - l = omega arith in pow-le-pow-right some fewer
+
+power-falls : (p : ℕ) → leastPh ≤ p → power p ≤ power leastPh
+unfolding power
+power-falls p h = falls _ _ leastPh p (omega arith) h
+
+pub floor-most : (p : ℕ) → leastPh ≤ p → p ≤ greatestPh → floorAt p ≤ mostFloor
+floor-most p l u =
+    let least : FloorRule leastPh (floorAt leastPh) = floor-rule leastPh (omega arith) (omega arith) in
+    rw (← floor-at-least) (least .greatest (floorAt p) (le-trans (floor-rule p l u .low) (power-falls p l)))
 
 -- the floor's answer, by the range of p
 pub floor-in-range : (p : ℕ) → leastPh ≤ p → p ≤ greatestPh → floorOf p ≡ given (floorAt p)

@@ -7,7 +7,7 @@ use native.Mathlib.Omega.{arith}
 use lib.ListN.{take, drop, getD}
 use lib.Seq.{drop-cons}
 use Rattle.hydrogen.specs.Floors.{leastPh, greatestPh, floorAt}
-use Rattle.hydrogen.specs.Rows.{rowLength, floorsFrom}
+use Rattle.hydrogen.specs.Steps.{rowLength, floorsFrom}
 use Rattle.hydrogen.proofs.FloorTable.{floors, floor-entry}
 
 -- the entry i places on in a row that begins at p

@@ -2,18 +2,18 @@
 -- In a fraction a / b, a is a whole number of either sign and b a natural number above 0.
 use mathlib.Core.Path.{_≡_}
 use mathlib.Core.Logic.{_↔_, _⊎_}
-use Prim.Native.Nat.{ℕ, suc, _+_, _*_, _^_, _≤_, _<_}
+use Prim.Native.Nat.{ℕ, suc, _+_, _*_, _≤_, _<_}
 use lib.IntN.{ℤ, pos, negsuc}
-use Rattle.hydrogen.specs.Floors.{WholePh, power, floorAt}
+use Rattle.hydrogen.specs.Floors.{WholePh, hundredth, power, floorAt}
 
 -- 'H is at most the fraction A/B exactly when A isn't negative and 10^(1500−p) × B^100 is at most A^100'
 abbrev pub HAtMost : ℕ → ℤ → ℕ → Type 0
-HAtMost p (pos a) b = power p * b ^ 100 ≤ a ^ 100
+HAtMost p (pos a) b = power p * hundredth b ≤ hundredth a
 HAtMost p (negsuc a) b = ⊥
 
 -- 'H is at least A/B exactly when A is negative or 10^(1500−p) × B^100 is at least A^100'
 abbrev pub HAtLeast : ℕ → ℤ → ℕ → Type 0
-HAtLeast p (pos a) b = a ^ 100 ≤ power p * b ^ 100
+HAtLeast p (pos a) b = hundredth a ≤ power p * hundredth b
 HAtLeast p (negsuc a) b = Unit {0}
 
 -- H is a / b; H is above a / b; H is below a / b
@@ -36,13 +36,13 @@ FractionLe (negsuc a) b (negsuc c) d = suc c * b ≤ suc a * d
 -- h is the floor at p: 'the greatest whole number whose hundredth power is at most 10^(1500−p)'
 pub record FloorRule (p h : ℕ) : Type 0 where
   -- its hundredth power is at most that
-  pub low : h ^ 100 ≤ power p
+  pub low : hundredth h ≤ power p
   -- the next number's is above it
-  pub high : power p < (h + 1) ^ 100
+  pub high : power p < hundredth (h + 1)
   -- it is equal to that exactly where p is a multiple of 100
-  pub exact : WholePh p ↔ (h ^ 100 ≡ power p)
+  pub exact : WholePh p ↔ (hundredth h ≡ power p)
   -- no number whose hundredth power is at most that is greater
-  pub greatest : (x : ℕ) → x ^ 100 ≤ power p → x ≤ h
+  pub greatest : (x : ℕ) → hundredth x ≤ power p → x ≤ h
 
 -- where H stands to h and h + 1
 pub record Placed (p h : ℕ) : Type 0 where

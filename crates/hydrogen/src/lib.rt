@@ -6,8 +6,11 @@ use refusal::Refusal;
 ghost use mathlib.Core.Path.{_≡_};
 ghost use Prim.Native.Nat.{_≤_};
 ghost use Rattle.hydrogen.specs.Answers.{floorOutcome};
-ghost use Rattle.hydrogen.specs.Floors.{leastPh, greatestPh, floorOf};
+ghost use Rattle.hydrogen.specs.Floors.{leastPh, greatestPh, isWhole, floorOf};
 ghost use Rattle.hydrogen.specs.TrueHydrogen.{HydrogenAt};
+
+// The greatest floor.
+pub use rows::MOST_FLOOR;
 
 // The least p.
 const LEAST_PH: u32 = 200;
@@ -30,4 +33,11 @@ pub fn floor_at(p: u32) -> FloorResult
         return FloorResult::Refused(Refusal::Ph);
     }
     FloorResult::Given(table::entry(p))
+}
+
+// Whether p is a whole pH, where true hydrogen is its floor.
+pub fn is_whole(p: u32) -> bool
+    ensures { λ r. ⌜ r ≡ isWhole p ⌝ }
+{
+    p % 100 == 0
 }

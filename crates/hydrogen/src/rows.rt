@@ -5,8 +5,11 @@
 // The entries of a row.
 pub const ROW: usize = 10;
 
+// The floor at pH 2.00, the greatest.
+pub const MOST_FLOOR: u64 = 10000000000000;
+
 pub const PH_2_0: [u64; ROW] = [
-    10000000000000,
+    MOST_FLOOR,
     9772372209558,
     9549925860214,
     9332543007969,

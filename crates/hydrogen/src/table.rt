@@ -4,7 +4,7 @@ use crate::rows;
 ghost use mathlib.Core.Path.{_≡_};
 ghost use Prim.Native.Nat.{_+_, _*_, _≤_};
 ghost use Rattle.hydrogen.specs.Floors.{leastPh, greatestPh, floorAt};
-ghost use Rattle.hydrogen.specs.Rows.{rowLength, floorsFrom};
+ghost use Rattle.hydrogen.specs.Steps.{rowLength, floorsFrom};
 
 // The entry for p.
 pub fn entry(p: u32) -> u64

@@ -1,15 +1,14 @@
 -- A verdict of 1 or 2 is true of true hydrogen, where the amounts are points.
-use mathlib.Core.Path.{_≡_, refl}
+use mathlib.Core.Path.{_≡_, refl, sym, _∙_}
 use mathlib.Core.Bool.{Bool, true, false, true≢false}
 use mathlib.Core.Logic.{_↔_}
 use Prim.Native.Nat.{ℕ, _+_, _*_, _≤_, _<_}
 use native.Mathlib.Nat.{mul-pos, mul-one, add-zero}
 use native.Mathlib.Omega.{arith}
 use lib.IntN.{ℤ, pos, subℕ}
-use borrow.Author.Tests.{eqb-true, eqb-false}
-use Rattle.hydrogen.specs.Floors.{floorAt}
+use Rattle.hydrogen.specs.Floors.{isWhole, floorAt}
 use Rattle.hydrogen.specs.TrueHydrogen.{HAtMost, HAtLeast, FractionLe, Ordered, HydrogenAt}
-use Rattle.solution.specs.Solutions.{gap, isWhole}
+use Rattle.solution.specs.Solutions.{gap}
 use Rattle.judge.specs.AtHydrogen.{AtH}
 use Rattle.judge.specs.Corners.{partAt, Check, passesOf}
 use Rattle.judge.proofs.Mixing.{points}
@@ -26,10 +25,10 @@ pub record Located (p h : ℕ) (b : Bool) : Type 0 where
 
 pub located : (p : ℕ) → HydrogenAt p → (b : Bool) → isWhole p ≡ b → Located p (floorAt p) b
 located p w true e =
-    let i = w .placed .whole (eqb-true _ _ e) in
+    let i = w .placed .whole e in
     record { low = i .0; high = rw (add-zero (floorAt p)) (i .1); above = λ z. absurd (true≢false z); below = λ z. absurd (true≢false z) }
 located p w false e =
-    let i = w .placed .above (eqb-false _ _ e) in
+    let i = w .placed .above (λ t. true≢false (sym t ∙ e)) in
     record { low = i .0; high = w .placed .below .0; above = λ z. i .1; below = λ z. w .placed .below .1 }
 
 -- the bound that f (q H + X) against g Y sets for H, where the test holds or fails at an end of where H is

@@ -1,29 +1,20 @@
 -- The ion balance is a check of two sums: sound, with document 01's inequality, verdict and bounds.
 use mathlib.Core.Path.{_≡_, refl}
-use mathlib.Core.Bool.{Bool, true, false, cond}
 use mathlib.Core.Logic.{_↔_, _⊎_, inl, inr}
 use Prim.Native.Nat.{ℕ, zero, suc, _+_, _-_, _*_, _≤_, _<_}
 use native.Mathlib.Nat.{mul-one, zero-add, mul-le-mul, le-of-lt}
 use native.Mathlib.Omega.{arith}
-use lib.Dec.{leb}
 use Rattle.hydrogen.proofs.Laws.{difference-times}
 use Rattle.record.specs.Record.{readings}
 use Rattle.solution.specs.Ions.{cationFactor, anionFactor, cationCharge, anionCharge, alkalinityCharge, sum}
+use Rattle.judge.specs.Classes.{percentOfMean}
 use Rattle.judge.specs.Choices.{Ranges, Choice, Among}
 use Rattle.judge.specs.Verdicts.{Judged}
 use Rattle.judge.specs.Corners.{Passes, passesOf}
-use Rattle.judge.specs.IonBalance.{cations, anions, Balanced, balanceLimit, balanceCheck, balanceBounds}
+use Rattle.judge.specs.IonBalance.{cations, anions, Balanced, balanceCheck, balanceBounds}
 use Rattle.judge.proofs.Judging.{judged-as}
 use Rattle.judge.proofs.CornerLaws.{Sound, passes-judged}
 use Rattle.judge.proofs.BoundLaws.{boundsOf}
-
-pub balance-limit : (m : ℕ) → balanceLimit m < 200
-unfolding balanceLimit
-balance-limit m = go (leb m 200)
-  where
-    go : (a : Bool) → cond a 20 10 < 200
-    go true = omega arith
-    go false = omega arith
 
 disjoint : (i : ℕ) → (cationCharge i ≡ 0) ⊎ (anionCharge i ≡ 0)
 unfolding cationFactor anionFactor
@@ -32,18 +23,21 @@ disjoint (suc zero) = inr refl
 disjoint (suc (suc zero)) = inr refl
 disjoint (suc (suc (suc zero))) = inr refl
 disjoint (suc (suc (suc (suc zero)))) = inr refl
-disjoint (suc (suc (suc (suc (suc n))))) = inl refl
+disjoint (suc (suc (suc (suc (suc zero))))) = inl refl
+disjoint (suc (suc (suc (suc (suc (suc zero)))))) = inl refl
+disjoint (suc (suc (suc (suc (suc (suc (suc zero))))))) = inl refl
+disjoint (suc (suc (suc (suc (suc (suc (suc (suc n)))))))) = inl refl
 
-module _ (L t : ℕ) (small : L < 200) where
+module _ (L t : ℕ) (small : L < percentOfMean) where
   pub balance-sound : Sound (balanceCheck L t)
   balance-sound =
-      let less : 200 - L ≤ 200 + L = omega arith in
+      let less : percentOfMean - L ≤ percentOfMean + L = omega arith in
       record { hydrogen = omega arith; high = omega arith; low = omega arith; window = mul-le-mul less less; disjoint = disjoint }
 
   pub balance-passes : (c : Choice) → Passes (balanceCheck L t) c ↔ Balanced L t c
   balance-passes c =
-      let x = difference-times 200 L (cations c) (le-of-lt small) in
-      let y = difference-times 200 L (anions t c) (le-of-lt small) in
+      let x = difference-times percentOfMean L (cations c) (le-of-lt small) in
+      let y = difference-times percentOfMean L (anions t c) (le-of-lt small) in
       (λ w. record { holds = omega (arith, x, y, w .high, w .low) }, λ w. record { high = omega (arith, x, w .holds); low = omega (arith, y, w .holds) })
 
   pub balance-judged : (r : Ranges) → ((i : ℕ) → r .least i ≤ r .greatest i) → Judged Choice (Among r) (Balanced L t) (passesOf (balanceCheck L t) r)

@@ -1,17 +1,18 @@
 -- The ways through each check, as the code goes them: its verdict by the answers to the tests on the way.
 use mathlib.Core.Path.{_≡_}
 use mathlib.Core.Bool.{true, false}
-use Prim.Native.Nat.{ℕ, _+_}
+use Prim.Native.Nat.{ℕ}
 use lib.Dec.{leb, eqb}
 use Rattle.reading.specs.declared.Analyte.{Analyte}
 use Rattle.reading.specs.declared.Reading.the-variants.{Missing}
 use Rattle.reading.specs.Analytes.{present}
 use Rattle.solution.specs.Solutions.{Sums}
+use Rattle.judge.specs.Classes.{stemflow}
 use Rattle.judge.specs.Corners.{decided}
 use Rattle.judge.specs.IonBalance.{balanceApplies, balanceLimit, balanceWindow}
 use Rattle.judge.specs.Conductivity.{conductivityLimit, conductivityWindow}
 use Rattle.judge.specs.Ratios.{sodiumChlorideWindow, nitrogenWindow}
-use Rattle.judge.specs.Prepared.{balanceIn, conductivityIn, ratioIn, nitrogenIn}
+use Rattle.judge.specs.ByValue.{balanceIn, conductivityIn, ratioIn, nitrogenIn}
 use Rattle.judge.proofs.MatchLaws.{There, is-missing, is-there}
 
 module _ (kind : ℕ) (carbon : Analyte) (measured : ℕ) (x : Sums) where
@@ -41,11 +42,11 @@ module _ (measured : ℕ) (x : Sums) where
   conductivity-decided k e = rw k e
 
 module _ (kind : ℕ) (na cl : Analyte) (x : Sums) where
-  pub other-kind : leb kind 4 ≡ false → 0 ≡ ratioIn kind na cl x
+  pub other-kind : leb kind stemflow ≡ false → 0 ≡ ratioIn kind na cl x
   unfolding ratioIn
   other-kind k = rw k
 
-  module _ (k : leb kind 4 ≡ true) where
+  module _ (k : leb kind stemflow ≡ true) where
     pub no-chloride : cl .reading ≡ Missing → 4 ≡ ratioIn kind na cl x
     unfolding ratioIn
     no-chloride c = rw (k, is-missing c)
@@ -64,23 +65,23 @@ module _ (kind : ℕ) (na cl : Analyte) (x : Sums) where
         unfolding ratioIn
         ratio-decided n e = rw (k, is-there (cl .reading) c, z, is-there (na .reading) n) e
 
-module _ (total nitrate ammonium : Analyte) where
-  pub no-total : total .reading ≡ Missing → 0 ≡ nitrogenIn total nitrate ammonium
+module _ (total nitrate ammonium : Analyte) (x : Sums) where
+  pub no-total : total .reading ≡ Missing → 0 ≡ nitrogenIn total nitrate ammonium x
   unfolding nitrogenIn
   no-total t = rw (is-missing t)
 
   module _ (t : There (total .reading)) where
-    pub no-nitrate : nitrate .reading ≡ Missing → 4 ≡ nitrogenIn total nitrate ammonium
+    pub no-nitrate : nitrate .reading ≡ Missing → 4 ≡ nitrogenIn total nitrate ammonium x
     unfolding nitrogenIn
     no-nitrate n = rw (is-there (total .reading) t, is-missing n)
 
     module _ (n : There (nitrate .reading)) where
-      pub no-ammonium : ammonium .reading ≡ Missing → 4 ≡ nitrogenIn total nitrate ammonium
+      pub no-ammonium : ammonium .reading ≡ Missing → 4 ≡ nitrogenIn total nitrate ammonium x
       unfolding nitrogenIn
       no-ammonium a = rw (is-there (total .reading) t, is-there (nitrate .reading) n, is-missing a)
 
       pub nitrogen-decided : {v : ℕ} → There (ammonium .reading)
-          → v ≡ decided nitrogenWindow true (nitrate .mass .0 + ammonium .mass .0) (nitrate .mass .0 + ammonium .mass .0) (total .mass .0) (total .mass .0)
-          → v ≡ nitrogenIn total nitrate ammonium
+          → v ≡ decided nitrogenWindow true (x .mineral) (x .mineral) (x .total) (x .total)
+          → v ≡ nitrogenIn total nitrate ammonium x
       unfolding nitrogenIn
       nitrogen-decided a e = rw (is-there (total .reading) t, is-there (nitrate .reading) n, is-there (ammonium .reading) a) e

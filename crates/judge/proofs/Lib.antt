@@ -4,6 +4,7 @@ mod Mixing
 mod Deciding
 mod Picking
 mod Judging
+mod LimitLaws
 mod RoomLaws
 mod NearCorners
 mod PartLaws
@@ -19,6 +20,7 @@ mod CheckWays
 mod RatioProofs
 mod TruthProofs
 mod JudgeLaws
+mod AnswerWays
 mod MostLaws
 pub mod Laws
 pub mod RepeatLaws

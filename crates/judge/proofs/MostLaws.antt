@@ -1,5 +1,5 @@
 -- No verdict's number is above 4.
-use mathlib.Core.Bool.{Bool, true, false, cond}
+use mathlib.Core.Bool.{Bool, true, false}
 use mathlib.Core.List.{List}
 use Prim.Native.Nat.{ℕ, _≤_}
 use lib.Dec.{leb, eqb, lit≤}
@@ -7,15 +7,13 @@ use Rattle.reading.specs.Analytes.{present}
 use Rattle.record.specs.Record.{kindOf, readingAt, massAt, ammonium, sodium, nitrate, chloride, totalNitrogen}
 use Rattle.solution.specs.Solutions.{ionsKnown}
 use Rattle.judge.specs.declared.window.Window.{Window}
+use Rattle.judge.specs.Classes.{stemflow}
 use Rattle.judge.specs.Verdicts.{applied}
 use Rattle.judge.specs.IonBalance.{balanceAppliesTo}
 use Rattle.judge.specs.Ratios.{sodiumChlorideOf, nitrogenOf}
 use Rattle.judge.specs.Judgements.{verdictsOf}
+use Rattle.judge.proofs.LimitLaws.{either-most}
 use Rattle.judge.proofs.Deciding.{Decided, deciding}
-
-most-of : (b : Bool) {x y : ℕ} → x ≤ 4 → y ≤ 4 → cond b x y ≤ 4
-most-of true h k = h
-most-of false h k = k
 
 decided-most : {w : Window} {e x₀ x₁ y₀ y₁ n : ℕ} → Decided w e x₀ x₁ y₀ y₁ n → n ≤ 4
 decided-most (Decided.over a) = lit≤ tt
@@ -36,13 +34,13 @@ module _ (s : List ℕ) where
 
   ratio-most : sodiumChlorideOf s ≤ 4
   ratio-most =
-      most-of (leb (kindOf s) 4)
-      (most-of (has chloride) (most-of (eqb (massAt s chloride) 0) (lit≤ tt) (most-of (has sodium) (decided-most (deciding _ _ _ _ _ _)) (lit≤ tt))) (lit≤ tt))
+      either-most (leb (kindOf s) stemflow)
+      (either-most (has chloride) (either-most (eqb (massAt s chloride) 0) (lit≤ tt) (either-most (has sodium) (decided-most (deciding _ _ _ _ _ _)) (lit≤ tt))) (lit≤ tt))
       (lit≤ tt)
 
   nitrogen-most : nitrogenOf s ≤ 4
   nitrogen-most =
-      most-of (has totalNitrogen) (most-of (has nitrate) (most-of (has ammonium) (decided-most (deciding _ _ _ _ _ _)) (lit≤ tt)) (lit≤ tt)) (lit≤ tt)
+      either-most (has totalNitrogen) (either-most (has nitrate) (either-most (has ammonium) (decided-most (deciding _ _ _ _ _ _)) (lit≤ tt)) (lit≤ tt)) (lit≤ tt)
 
   pub verdicts-most : (verdictsOf s .balance ≤ 4) × (verdictsOf s .conductivity ≤ 4) × (verdictsOf s .ratio ≤ 4) × (verdictsOf s .nitrogen ≤ 4)
   verdicts-most = (

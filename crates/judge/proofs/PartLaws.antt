@@ -4,10 +4,16 @@ use mathlib.Core.Logic.{_⊎_, inl, inr}
 use Prim.Native.Nat.{ℕ, _+_, _*_, _≤_}
 use native.Mathlib.Omega.{arith}
 use Rattle.record.specs.Record.{readings}
+use Rattle.solution.specs.Ions.{sum}
 use Rattle.solution.proofs.SumLaws.{sum-over, sum-under, sum-times, sum-mix, sum-same}
 use Rattle.judge.specs.Choices.{Ranges, Choice, Among}
 use Rattle.judge.specs.Corners.{Part, partOf, partAt}
 use Rattle.judge.proofs.Mixing.{mix, at}
+
+-- a sum that weighs no reading
+pub no-weight : (a : ℕ → ℕ) → sum (λ i. 0 * a i) readings ≡ 0
+unfolding sum
+no-weight a = omega arith
 
 module _ (p : Part) where
   module _ (r : Ranges) (c : Choice) (a : Among r c) where

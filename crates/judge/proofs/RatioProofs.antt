@@ -7,9 +7,10 @@ use native.Mathlib.Omega.{arith}
 use lib.Dec.{leb, eqb}
 use Rattle.reading.specs.Analytes.{present}
 use Rattle.record.specs.Record.{kindOf, readingAt, massAt, ammonium, sodium, nitrate, chloride, totalNitrogen}
-use Rattle.solution.specs.Solutions.{sodiumCharge, chlorideCharge}
+use Rattle.solution.specs.Solutions.{sodiumCharge, chlorideCharge, mineralNitrogen}
+use Rattle.judge.specs.Classes.{stemflow}
 use Rattle.judge.specs.Verdicts.{applied}
-use Rattle.judge.specs.Ratios.{sodiumChlorideWindow, nitrogenWindow, mineralNitrogen, sodiumChlorideOf, nitrogenOf}
+use Rattle.judge.specs.Ratios.{sodiumChlorideWindow, nitrogenWindow, sodiumChlorideOf, nitrogenOf}
 use Rattle.judge.specs.Truth.{PlainTruth, ratioApplies, ratioKnown, nitrogenApplies, nitrogenKnown}
 use Rattle.judge.proofs.PointLaws.{Settled, settled-1, settled-2, settled-few, settled-as, settled}
 use Rattle.judge.proofs.Applying.{applied-0, applied-4, applied-is}
@@ -42,7 +43,7 @@ module _ (s : List ℕ) where
   pub ratio-truth :
       PlainTruth (ratioApplies s) (ratioKnown s) ((chlorideCharge s ≤ 2 * sodiumCharge s) × (2 * sodiumCharge s ≤ 3 * chlorideCharge s)) (sodiumChlorideOf s)
   ratio-truth =
-      rw (ratio-applied (leb (kindOf s) 4) (present (readingAt s chloride)) (eqb (massAt s chloride) 0) (present (readingAt s sodium)))
+      rw (ratio-applied (leb (kindOf s) stemflow) (present (readingAt s chloride)) (eqb (massAt s chloride) 0) (present (readingAt s sodium)))
       (plain-truth (ratioApplies s) (ratioKnown s) _ (settled-as (λ e. omega arith, λ e. omega arith) (settled sodiumChlorideWindow (sodiumCharge s) (chlorideCharge s))))
 
   pub nitrogen-truth : PlainTruth (nitrogenApplies s) (nitrogenKnown s) (mineralNitrogen s ≤ massAt s totalNitrogen) (nitrogenOf s)

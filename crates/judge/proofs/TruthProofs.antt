@@ -6,12 +6,11 @@ use mathlib.Core.Logic.{_↔_, Iff·rfl, Iff·symm, Iff·trans}
 use Prim.Native.Nat.{ℕ, _≤_, _<_}
 use native.Mathlib.Nat.{le-refl}
 use native.Mathlib.Omega.{arith}
-use borrow.Author.Tests.{eq-eqb}
-use Rattle.hydrogen.specs.Floors.{leastPh, greatestPh, floorAt}
+use Rattle.hydrogen.specs.Floors.{leastPh, greatestPh, isWhole, floorAt}
 use Rattle.hydrogen.specs.TrueHydrogen.{HydrogenAt}
 use Rattle.hydrogen.proofs.Laws.{hydrogen-at}
 use Rattle.record.specs.Record.{phOf, conductivityOf, alkalinityOf, massAt}
-use Rattle.solution.specs.Solutions.{isWhole, ionsKnown, measuredOf}
+use Rattle.solution.specs.Solutions.{ionsKnown, measuredOf}
 use Rattle.judge.specs.Choices.{Choice, Among}
 use Rattle.judge.specs.AtHydrogen.{AtH}
 use Rattle.judge.specs.Verdicts.{Judged, applied}
@@ -28,8 +27,9 @@ use Rattle.judge.proofs.BoundLaws.{boundsOf, passes-bounds}
 use Rattle.judge.proofs.AtHydrogenLaws.{Tells, located, passes-tells}
 use Rattle.judge.proofs.PointLaws.{settled-few, whole-settled}
 use Rattle.judge.proofs.Applying.{applied-0, applied-4, applied-is}
-use Rattle.judge.proofs.BalanceLaws.{balance-limit, balance-sound, balance-passes, balance-judged, balance-bounds}
-use Rattle.judge.proofs.ConductivityLaws.{conductivity-limit, conductivity-sound, conductivity-passes, conductivity-judged, conductivity-bounds}
+use Rattle.judge.proofs.LimitLaws.{balance-limit, conductivity-limit}
+use Rattle.judge.proofs.BalanceLaws.{balance-sound, balance-passes, balance-judged, balance-bounds}
+use Rattle.judge.proofs.ConductivityLaws.{conductivity-sound, conductivity-passes, conductivity-judged, conductivity-bounds}
 use Rattle.judge.proofs.RatioProofs.{ratio-truth, nitrogen-truth}
 
 -- at a pH that is a multiple of 100 the verdict by corners is not 3
@@ -69,7 +69,7 @@ module _ (s : List ℕ) (w : HydrogenAt (phOf s)) (applies : Bool) (k : Check) (
         undecided = (
           λ e.
               let u = both-occur .0 e in
-              (u .0, u .1, λ z. whole-decided k (massAt s) (floorAt p) (isWhole p) (eq-eqb _ _ z) (own 3 (omega arith) e), u .2 .0, u .2 .1),
+              (u .0, u .1, λ z. whole-decided k (massAt s) (floorAt p) (isWhole p) z (own 3 (omega arith) e), u .2 .0, u .2 .1),
           λ e. both-occur .1 (e .0, e .1, (e .3, e .4)),
         );
         judged = λ a b. rw (a, b) judged;
@@ -83,8 +83,8 @@ truth s l u =
     let M : ℕ = conductivityLimit (conductivityOf s) in
     let t : ℕ = alkalinityOf s in
     let CM : ℕ = measuredOf (conductivityOf s) in
-    let b : balanceLimit (conductivityOf s) < 200 = balance-limit (conductivityOf s) in
-    let c : conductivityLimit (conductivityOf s) ≤ 100 = conductivity-limit (conductivityOf s) in
+    let b = balance-limit (conductivityOf s) in
+    let c = conductivity-limit (conductivityOf s) in
     let ordered : (i : ℕ) → massAt s i ≤ massAt s i = λ i. le-refl (massAt s i) in
     record {
       balance =

@@ -9,7 +9,8 @@ use Rattle.record.specs.Record.{conductivityOf, alkalinityOf, readings}
 use Rattle.solution.specs.Ions.{conducted, hydrogenConductance, sum}
 use Rattle.solution.specs.Solutions.{ionsKnown, alkalinityConducts, othersConduct, measuredOf}
 use Rattle.judge.specs.declared.window.Window.{Window}
-use Rattle.judge.specs.Choices.{Choice}
+use Rattle.judge.specs.Classes.{lowConductivity, mediumConductivity, percent}
+use Rattle.judge.specs.Choices.{Ranges, Choice}
 use Rattle.judge.specs.Verdicts.{applied}
 use Rattle.judge.specs.AtHydrogen.{Bounds}
 use Rattle.judge.specs.Corners.{fraction, Check, passesOf}
@@ -17,7 +18,7 @@ use Rattle.judge.specs.Ranges.{rangesOf}
 
 -- 'M is 30 up to 10.0, 20 up to 20.0, 10 above', by tenths of µS/cm
 unfoldable pub conductivityLimit : ℕ → ℕ
-conductivityLimit measured = cond (leb measured 100) 30 (cond (leb measured 200) 20 10)
+conductivityLimit measured = cond (leb measured lowConductivity) 30 (cond (leb measured mediumConductivity) 20 10)
 
 -- 'CE is the sum over all ten rows': with alkalinity t, of a choice, divisor times
 abbrev pub calculated : ℕ → Choice → ℕ
@@ -25,11 +26,11 @@ calculated t c = hydrogenConductance * c .hydrogen + (alkalinityConducts t * c .
 
 -- '100 times the difference of CE and CM, its sign dropped, is at most M × CM'
 pub record Conducting (M t CM : ℕ) (c : Choice) : Type 0 where
-  pub holds : 100 * apart (calculated t c) (CM * c .divisor) ≤ M * (CM * c .divisor)
+  pub holds : percent * apart (calculated t c) (CM * c .divisor) ≤ M * (CM * c .divisor)
 
 -- the same as a window of the ratio CE / CM
 abbrev pub conductivityWindow : ℕ → Window
-conductivityWindow M = record { low = fraction (100 - M) 100; high = fraction (100 + M) 100 }
+conductivityWindow M = record { low = fraction (percent - M) percent; high = fraction (percent + M) percent }
 
 abbrev pub conductivityCheck : ℕ → ℕ → ℕ → Check
 conductivityCheck M t CM =
@@ -40,20 +41,23 @@ conductivityCheck M t CM =
       window = conductivityWindow M;
     }
 
--- 'all kinds'; 'needs the eight ions'
+-- 'all kinds'; 'needs the eight ions': over the ranges that a record leaves open
+abbrev pub conductivityOver : List ℕ → Ranges → ℕ
+conductivityOver s r =
+    applied true (ionsKnown s) (passesOf (conductivityCheck (conductivityLimit (conductivityOf s)) (alkalinityOf s) (measuredOf (conductivityOf s))) r)
+
 abbrev pub conductivityVerdict : List ℕ → ℕ
-conductivityVerdict s =
-    applied true (ionsKnown s) (passesOf (conductivityCheck (conductivityLimit (conductivityOf s)) (alkalinityOf s) (measuredOf (conductivityOf s))) (rangesOf s))
+conductivityVerdict s = conductivityOver s (rangesOf s)
 
 -- a greatest and a least fraction for H, with E what all but hydrogen conducts:
 -- ((100 + M) CM − 100 E) / (100 × 3500) and ((100 − M) CM − 100 E) / (100 × 3500)
 abbrev pub conductivityBounds : ℕ → ℕ → ℕ → Bounds
 conductivityBounds M E CM =
     record {
-      most = subℕ ((100 + M) * CM) (100 * E);
-      mostPer = 100 * hydrogenConductance;
-      least = subℕ ((100 - M) * CM) (100 * E);
-      leastPer = 100 * hydrogenConductance;
+      most = subℕ ((percent + M) * CM) (percent * E);
+      mostPer = percent * hydrogenConductance;
+      least = subℕ ((percent - M) * CM) (percent * E);
+      leastPer = percent * hydrogenConductance;
     }
 
 abbrev pub conductivityBoundsOf : List ℕ → Bounds

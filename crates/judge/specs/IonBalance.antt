@@ -5,27 +5,32 @@ use Prim.Native.Nat.{ℕ, _+_, _-_, _*_, _≤_}
 use lib.Dec.{leb, ltb, eqb}
 use lib.IntN.{subℕ}
 use Rattle.refusal.specs.Differences.{apart}
+use Rattle.reading.specs.Amounts.{perMilligram}
 use Rattle.reading.specs.Analytes.{present}
 use Rattle.record.specs.Record.{kindOf, conductivityOf, alkalinityOf, readings, readingAt, massAt, organicCarbon}
 use Rattle.solution.specs.Ions.{cationCharge, anionCharge, alkalinityCharge, sum}
 use Rattle.solution.specs.Solutions.{ionsKnown, otherCations, anionsOf}
 use Rattle.judge.specs.declared.window.Window.{Window}
-use Rattle.judge.specs.Choices.{Choice}
+use Rattle.judge.specs.Classes.{wetOnly, bulk, runoff, mediumConductivity, percentOfMean}
+use Rattle.judge.specs.Choices.{Ranges, Choice}
 use Rattle.judge.specs.Verdicts.{applied}
 use Rattle.judge.specs.AtHydrogen.{Bounds}
 use Rattle.judge.specs.Corners.{fraction, Check, passesOf}
 use Rattle.judge.specs.Ranges.{rangesOf}
 
 -- 'kinds 1 and 2, and kind 5 with DOC present and below 5,000 µg/L'
+abbrev pub carbonLine : ℕ
+carbonLine = 5 * perMilligram
+
 unfoldable pub balanceApplies : ℕ → Bool → ℕ → Bool
-balanceApplies kind carbonPresent carbon = (eqb kind 1 || eqb kind 2) || (eqb kind 5 && (carbonPresent && ltb carbon 5_000))
+balanceApplies kind carbonPresent carbon = (eqb kind wetOnly || eqb kind bulk) || (eqb kind runoff && (carbonPresent && ltb carbon carbonLine))
 
 abbrev pub balanceAppliesTo : List ℕ → Bool
 balanceAppliesTo s = balanceApplies (kindOf s) (present (readingAt s organicCarbon)) (massAt s organicCarbon)
 
 -- 'L is 20 up to a measured 20.0 µS/cm, above that 10', by tenths of µS/cm
 unfoldable pub balanceLimit : ℕ → ℕ
-balanceLimit measured = cond (leb measured 200) 20 10
+balanceLimit measured = cond (leb measured mediumConductivity) 20 10
 
 -- 'Cat is H plus the next five rows, An the last four', of a choice and divisor times, with alkalinity t
 abbrev pub cations : Choice → ℕ
@@ -36,11 +41,11 @@ anions t c = alkalinityCharge t * c .divisor + sum (λ i. anionCharge i * c .amo
 
 -- '200 times the difference of Cat and An, its sign dropped, is at most L × (Cat + An)'
 pub record Balanced (L t : ℕ) (c : Choice) : Type 0 where
-  pub holds : 200 * apart (cations c) (anions t c) ≤ L * (cations c + anions t c)
+  pub holds : percentOfMean * apart (cations c) (anions t c) ≤ L * (cations c + anions t c)
 
 -- the same as a window of the ratio Cat / An
 abbrev pub balanceWindow : ℕ → Window
-balanceWindow L = record { low = fraction (200 - L) (200 + L); high = fraction (200 + L) (200 - L) }
+balanceWindow L = record { low = fraction (percentOfMean - L) (percentOfMean + L); high = fraction (percentOfMean + L) (percentOfMean - L) }
 
 abbrev pub balanceCheck : ℕ → ℕ → Check
 balanceCheck L t =
@@ -51,19 +56,22 @@ balanceCheck L t =
       window = balanceWindow L;
     }
 
--- 'needs the eight ions'
+-- 'needs the eight ions': over the ranges that a record leaves open
+abbrev pub ionBalanceOver : List ℕ → Ranges → ℕ
+ionBalanceOver s r = applied (balanceAppliesTo s) (ionsKnown s) (passesOf (balanceCheck (balanceLimit (conductivityOf s)) (alkalinityOf s)) r)
+
 abbrev pub ionBalanceOf : List ℕ → ℕ
-ionBalanceOf s = applied (balanceAppliesTo s) (ionsKnown s) (passesOf (balanceCheck (balanceLimit (conductivityOf s)) (alkalinityOf s)) (rangesOf s))
+ionBalanceOf s = ionBalanceOver s (rangesOf s)
 
 -- 'the inequality sets a greatest and a least fraction for H', C the cations but hydrogen and A the anions, in u:
 -- ((200 + L) A − (200 − L) C) / (200 − L) and ((200 − L) A − (200 + L) C) / (200 + L)
 abbrev pub balanceBounds : ℕ → ℕ → ℕ → Bounds
 balanceBounds L C A =
     record {
-      most = subℕ ((200 + L) * A) ((200 - L) * C);
-      mostPer = 200 - L;
-      least = subℕ ((200 - L) * A) ((200 + L) * C);
-      leastPer = 200 + L;
+      most = subℕ ((percentOfMean + L) * A) ((percentOfMean - L) * C);
+      mostPer = percentOfMean - L;
+      least = subℕ ((percentOfMean - L) * A) ((percentOfMean + L) * C);
+      leastPer = percentOfMean + L;
     }
 
 abbrev pub balanceBoundsOf : List ℕ → Bounds

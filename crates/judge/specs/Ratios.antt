@@ -1,12 +1,13 @@
 -- Document 01, 'Na/Cl' and 'Nitrogen': two checks in which hydrogen plays no part.
 use mathlib.Core.Bool.{Bool, true, cond}
 use mathlib.Core.List.{List}
-use Prim.Native.Nat.{ℕ, _+_}
+use Prim.Native.Nat.{ℕ}
 use lib.Dec.{leb, eqb}
 use Rattle.reading.specs.Analytes.{present}
 use Rattle.record.specs.Record.{kindOf, readingAt, massAt, ammonium, sodium, nitrate, chloride, totalNitrogen}
-use Rattle.solution.specs.Solutions.{sodiumCharge, chlorideCharge}
+use Rattle.solution.specs.Solutions.{sodiumCharge, chlorideCharge, mineralNitrogen}
 use Rattle.judge.specs.declared.window.Window.{Window}
+use Rattle.judge.specs.Classes.{stemflow}
 use Rattle.judge.specs.Corners.{fraction, decided}
 
 -- 'the ratio of charges is from 0.5 to 1.5, ends included'
@@ -16,7 +17,7 @@ sodiumChlorideWindow = record { low = fraction 1 2; high = fraction 3 2 }
 -- 'kinds 1 to 4, unless Cl is present with amount 0; Cl missing gives 4'; 'needs both'. By the charges of sodium and chloride
 abbrev pub sodiumChlorideBy : ℕ → Bool → ℕ → Bool → ℕ → ℕ → ℕ
 sodiumChlorideBy kind hasChloride chlorideMass hasSodium na cl =
-    cond (leb kind 4)
+    cond (leb kind stemflow)
     (cond hasChloride
     (cond (eqb chlorideMass 0) 0
     (cond hasSodium (decided sodiumChlorideWindow true na na cl cl) 4))
@@ -39,9 +40,6 @@ nitrogenBy hasTotal hasNitrate hasAmmonium mineral total =
     (cond hasAmmonium (decided nitrogenWindow true mineral mineral total total) 4)
     4)
     0
-
-abbrev pub mineralNitrogen : List ℕ → ℕ
-mineralNitrogen s = massAt s nitrate + massAt s ammonium
 
 abbrev pub nitrogenOf : List ℕ → ℕ
 nitrogenOf s =

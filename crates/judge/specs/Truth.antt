@@ -8,14 +8,14 @@ use lib.Dec.{leb, eqb}
 use Rattle.hydrogen.specs.Floors.{WholePh}
 use Rattle.reading.specs.Analytes.{present}
 use Rattle.record.specs.Record.{phOf, conductivityOf, alkalinityOf, kindOf, readingAt, massAt, ammonium, sodium, nitrate, chloride, totalNitrogen}
-use Rattle.solution.specs.Solutions.{ionsKnown, measuredOf, sodiumCharge, chlorideCharge}
+use Rattle.solution.specs.Solutions.{ionsKnown, measuredOf, sodiumCharge, chlorideCharge, mineralNitrogen}
+use Rattle.judge.specs.Classes.{stemflow}
 use Rattle.judge.specs.Choices.{Choice, Among}
 use Rattle.judge.specs.Verdicts.{Judged}
 use Rattle.judge.specs.AtHydrogen.{Bounds, AtH, AtFraction}
 use Rattle.judge.specs.Ranges.{rangesOf}
 use Rattle.judge.specs.IonBalance.{balanceAppliesTo, balanceLimit, Balanced, balanceBoundsOf}
 use Rattle.judge.specs.Conductivity.{conductivityLimit, Conducting, conductivityBoundsOf}
-use Rattle.judge.specs.Ratios.{mineralNitrogen}
 use Rattle.judge.specs.Judgements.{Four}
 
 -- the record's amounts with hydrogen n / d
@@ -54,7 +54,7 @@ pub record PlainTruth (applies known : Bool) (Holds : Type 0) (v : ℕ) : Type 0
 
 -- Na/Cl: 'kinds 1 to 4, unless Cl is present with amount 0', 'needs both'
 abbrev pub ratioApplies : List ℕ → Bool
-ratioApplies s = leb (kindOf s) 4 && not (present (readingAt s chloride) && eqb (massAt s chloride) 0)
+ratioApplies s = leb (kindOf s) stemflow && not (present (readingAt s chloride) && eqb (massAt s chloride) 0)
 
 abbrev pub ratioKnown : List ℕ → Bool
 ratioKnown s = present (readingAt s chloride) && present (readingAt s sodium)

@@ -1,5 +1,10 @@
 // The ion balance.
 use crate::Verdict;
+use crate::classes::BULK;
+use crate::classes::MEDIUM_CONDUCTIVITY;
+use crate::classes::PERCENT_OF_MEAN;
+use crate::classes::RUNOFF;
+use crate::classes::WET_ONLY;
 use crate::ratio;
 use crate::ratio::Fraction;
 use crate::window;
@@ -15,8 +20,12 @@ ghost use Rattle.record.specs.Tested.{analyteAt};
 ghost use Rattle.judge.specs.Numbers.{verdictNumber};
 ghost use Rattle.solution.specs.Solutions.{sumsIn};
 ghost use Rattle.solution.specs.Steps.{Bounded};
-ghost use Rattle.judge.specs.Prepared.{balanceIn};
+ghost use Rattle.judge.specs.ByValue.{balanceIn};
+ghost use Rattle.judge.specs.Classes.{percentOfMean};
 ghost use Rattle.judge.specs.IonBalance.{balanceApplies, balanceLimit, balanceWindow};
+
+// Dissolved organic carbon of 5 mg/L, in µg/L.
+const CARBON_LINE: u64 = 5000;
 
 // The check of a record, by its kind, its readings, its measured conductivity in tenths of µS/cm, and its solution. 'Not
 // applicable' goes before 'missing'.
@@ -45,39 +54,39 @@ pub fn of_record(
 fn applies(kind: u32, carbon: Analyte) -> bool
     ensures { λ r. ⌜ r ≡ balanceApplies kind (present (carbon .reading)) (carbon .mass .0) ⌝ }
 {
-    if kind == 1 {
+    if kind == WET_ONLY {
         return true;
     }
-    if kind == 2 {
+    if kind == BULK {
         return true;
     }
-    if kind != 5 {
+    if kind != RUNOFF {
         return false;
     }
     let reading = carbon.reading;
     if let Reading::Missing = reading {
         return false;
     }
-    carbon.mass.0 < 5000
+    carbon.mass.0 < CARBON_LINE
 }
 
 // The window of cations to anions, by the measured conductivity: a limit of 20 percent up to 20.0 µS/cm, of 10 above.
 fn window_at(measured: u32) -> Window
     ensures { λ r. ⌜ r ≡ balanceWindow (balanceLimit measured) ⌝ }
 {
-    if measured <= 200 {
+    if measured <= MEDIUM_CONDUCTIVITY {
         return within(20);
     }
     within(10)
 }
 
-// 200 times the difference of two sums, at most that limit of their sum.
+// A difference of two sums of at most so many percent of their mean.
 fn within(limit: u64) -> Window
-    requires { ⌜ limit ≤ 200 ⌝ }
+    requires { ⌜ limit ≤ percentOfMean ⌝ }
     ensures { λ r. ⌜ r ≡ balanceWindow limit ⌝ }
 {
-    let less = 200 - limit;
-    let more = 200 + limit;
+    let less = PERCENT_OF_MEAN - limit;
+    let more = PERCENT_OF_MEAN + limit;
     Window {
         low: Fraction {
             numerator: less,

@@ -1,5 +1,8 @@
 // The conductivity that the ions account for, against the measured one.
 use crate::Verdict;
+use crate::classes::LOW_CONDUCTIVITY;
+use crate::classes::MEDIUM_CONDUCTIVITY;
+use crate::classes::PERCENT;
 use crate::ratio;
 use crate::ratio::Fraction;
 use crate::window;
@@ -10,7 +13,8 @@ ghost use Prim.Native.Nat.{_≤_};
 ghost use Rattle.judge.specs.Numbers.{verdictNumber};
 ghost use Rattle.solution.specs.Solutions.{sumsIn};
 ghost use Rattle.solution.specs.Steps.{Bounded};
-ghost use Rattle.judge.specs.Prepared.{conductivityIn};
+ghost use Rattle.judge.specs.ByValue.{conductivityIn};
+ghost use Rattle.judge.specs.Classes.{percent};
 ghost use Rattle.judge.specs.Conductivity.{conductivityLimit, conductivityWindow};
 
 // The check of a record, by its measured conductivity in tenths of µS/cm and its solution.
@@ -30,10 +34,10 @@ pub fn of_record(measured: u32, solution: Solution) -> Verdict
 fn window_at(measured: u32) -> Window
     ensures { λ r. ⌜ r ≡ conductivityWindow (conductivityLimit measured) ⌝ }
 {
-    if measured <= 100 {
+    if measured <= LOW_CONDUCTIVITY {
         return within(30);
     }
-    if measured <= 200 {
+    if measured <= MEDIUM_CONDUCTIVITY {
         return within(20);
     }
     within(10)
@@ -41,17 +45,17 @@ fn window_at(measured: u32) -> Window
 
 // At most so many percent from the measured value.
 fn within(limit: u64) -> Window
-    requires { ⌜ limit ≤ 100 ⌝ }
+    requires { ⌜ limit ≤ percent ⌝ }
     ensures { λ r. ⌜ r ≡ conductivityWindow limit ⌝ }
 {
     Window {
         low: Fraction {
-            numerator: 100 - limit,
-            denominator: 100,
+            numerator: PERCENT - limit,
+            denominator: PERCENT,
         },
         high: Fraction {
-            numerator: 100 + limit,
-            denominator: 100,
+            numerator: PERCENT + limit,
+            denominator: PERCENT,
         },
     }
 }

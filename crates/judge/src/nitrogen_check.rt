@@ -7,21 +7,23 @@ use crate::window::Window;
 use reading::Analyte;
 use reading::Mass;
 use reading::Reading;
+use solution::Solution;
 ghost use mathlib.Core.Path.{_≡_};
 ghost use mathlib.Core.Bool.{true};
 ghost use Prim.Native.Nat.{_+_, _≤_};
-ghost use Rattle.record.specs.Record.{readings, mostMass, ammonium, nitrate, totalNitrogen};
+ghost use Rattle.record.specs.Record.{ammonium, nitrate, totalNitrogen};
 ghost use Rattle.record.specs.Tested.{analyteAt};
 ghost use Rattle.judge.specs.Numbers.{verdictNumber};
-ghost use Rattle.solution.specs.Held.{Small};
+ghost use Rattle.solution.specs.Solutions.{sumsIn};
+ghost use Rattle.solution.specs.Steps.{mostSums, Bounded};
 ghost use Rattle.judge.specs.Corners.{decided};
 ghost use Rattle.judge.specs.Ratios.{nitrogenWindow};
-ghost use Rattle.judge.specs.Prepared.{nitrogenIn};
+ghost use Rattle.judge.specs.ByValue.{nitrogenIn};
 
-// The check of a record, by its readings.
-pub fn of_record(analytes: [Analyte; record::READINGS]) -> Verdict
-    requires { ⌜ Small readings analytes ⌝ }
-    ensures { λ r. ⌜ verdictNumber r ≡ nitrogenIn (analyteAt analytes totalNitrogen) (analyteAt analytes nitrate) (analyteAt analytes ammonium) ⌝ }
+// The check of a record, by its readings and its solution.
+pub fn of_record(analytes: [Analyte; record::READINGS], solution: Solution) -> Verdict
+    requires { ⌜ Bounded (sumsIn solution) ⌝ }
+    ensures { λ r. ⌜ verdictNumber r ≡ nitrogenIn (analyteAt analytes totalNitrogen) (analyteAt analytes nitrate) (analyteAt analytes ammonium) (sumsIn solution) ⌝ }
 {
     let total = analytes[record::TOTAL_NITROGEN];
     let reading = total.reading;
@@ -38,20 +40,12 @@ pub fn of_record(analytes: [Analyte; record::READINGS]) -> Verdict
     if let Reading::Missing = reading {
         return Verdict::Missing;
     }
-    verdict(plus(nitrate.mass, ammonium.mass), total.mass)
-}
-
-// A mass is added to a mass alone.
-fn plus(a: Mass, b: Mass) -> Mass
-    requires { ⌜ (a .0 ≤ mostMass) × (b .0 ≤ mostMass) ⌝ }
-    ensures { λ r. ⌜ r .0 ≡ a .0 + b .0 ⌝ }
-{
-    Mass(a.0 + b.0)
+    verdict(solution.nitrogen.mineral, solution.nitrogen.total)
 }
 
 // At most all of it.
 fn verdict(mineral: Mass, total: Mass) -> Verdict
-    requires { ⌜ (mineral .0 ≤ mostMass + mostMass) × (total .0 ≤ mostMass) ⌝ }
+    requires { ⌜ mineral .0 + total .0 ≤ mostSums .mineral + mostSums .total ⌝ }
     ensures { λ r. ⌜ verdictNumber r ≡ decided nitrogenWindow true (mineral .0) (mineral .0) (total .0) (total .0) ⌝ }
 {
     let window = Window {

@@ -1,21 +1,19 @@
 -- What is held of a record by value gives the record's own amounts and sums.
 use mathlib.Core.Path.{_≡_, refl, ap, ap₂}
-use mathlib.Core.Bool.{true}
 use mathlib.Core.List.{List}
 use Prim.Native.Nat.{ℕ, zero, suc, _+_, _*_, _<_}
 use native.Mathlib.Omega.{arith}
-use lib.Dec.{leb}
-use borrow.Author.Tests.{le-leb, leb-true}
 use Rattle.reading.specs.declared.Analyte.{Analyte}
 use Rattle.reading.specs.Analytes.{present}
-use Rattle.record.specs.Record.{ions, readings, readingAt, allBelow, massAt, mostMass}
+use Rattle.record.specs.Record.{ions, readings, readingAt, allBelow, massAt}
 use Rattle.record.specs.declared.TestedRecord.{TestedRecord}
 use Rattle.record.specs.Tested.{Holds}
-use Rattle.record.proofs.AllBelow.{all-same, all-each, each-all}
+use Rattle.record.proofs.AllBelow.{all-same}
 use Rattle.record.proofs.MassLaws.{mass-most}
 use Rattle.solution.specs.Ions.{sum}
 use Rattle.solution.specs.Solutions.{ionsKnown}
-use Rattle.solution.specs.Held.{thereAt, amountAt, areSmall, Small}
+use Rattle.solution.specs.ByValue.{thereAt, amountAt}
+use Rattle.solution.specs.Steps.{Small}
 
 -- what agrees below n has the same sum up to n
 weighed-same : (w a b : ℕ → ℕ) (n : ℕ) → ((i : ℕ) → i < n → a i ≡ b i) → sum (λ i. w i * a i) n ≡ sum (λ i. w i * b i) n
@@ -33,7 +31,7 @@ module _ (s : List ℕ) (r : TestedRecord) (w : Holds s r) where
   pub held-amount : (i : ℕ) → i < readings → amountAt h i ≡ massAt s i
   held-amount i l = ap (λ (a : Analyte). a .mass .0) (w .readings i l)
 
-  pub held-small : Small readings h
+  pub held-small : Small h
   held-small = record { most = λ i l. rw (held-amount i l) (mass-most (readingAt s i)) }
 
   pub held-known : allBelow (thereAt h) ions ≡ ionsKnown s
@@ -42,12 +40,3 @@ module _ (s : List ℕ) (r : TestedRecord) (w : Holds s r) where
   -- a sum of what is held is that of the record
   pub held-sum : (w : ℕ → ℕ) → sum (λ i. w i * amountAt h i) readings ≡ sum (λ i. w i * massAt s i) readings
   held-sum w = weighed-same w (amountAt h) (massAt s) readings held-amount
-
--- as one test
-pub small-are : (analytes : List Analyte) → Small readings analytes → areSmall analytes ≡ true
-unfolding areSmall
-small-are analytes h = each-all (λ i. leb (amountAt analytes i) mostMass) ions (λ i l. le-leb _ _ (h .most i (omega arith)))
-
-pub are-small : (analytes : List Analyte) → areSmall analytes ≡ true → Small ions analytes
-unfolding areSmall
-are-small analytes t = record { most = λ i l. leb-true _ _ (all-each (λ i. leb (amountAt analytes i) mostMass) ions t i l) }

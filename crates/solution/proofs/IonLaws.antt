@@ -1,27 +1,26 @@
--- The sums of a record's ions: one more ion, no ion beyond the eight, and how large they can be.
-use mathlib.Core.Path.{_≡_, refl, sym, ap, _∙_}
+-- The sums of a record's ions: what one ion adds, no ion beyond the eight, and how large they can be.
+use mathlib.Core.Path.{_≡_, refl, sym, ap, ap₂, _∙_}
 use mathlib.Core.List.{List}
-use Prim.Native.Nat.{ℕ, _+_, _*_, _≤_}
-use native.Mathlib.Nat.{le-trans, mul-le-mul-left, mul-assoc, add-mul}
-use native.Mathlib.Numerals.{add-one}
+use Prim.Native.Nat.{ℕ, _+_, _*_, _^_, _≤_, _<_}
+use native.Mathlib.Nat.{le-refl, mul-le-mul-left, mul-assoc, add-mul}
 use native.Mathlib.Omega.{arith}
-use lib.Dec.{lit≤}
-use Rattle.record.proofs.MassLaws.{mass-most}
-use Rattle.record.specs.Record.{ions, readings, mostMass, massAt}
-use Rattle.solution.specs.Ions.{cationFactor, anionFactor, conductance, cationCharge, anionCharge, conducted, sum}
-use Rattle.solution.proofs.SumLaws.{sum-le}
-
--- ---- one more ion
-pub sum-next : (f : ℕ → ℕ) (i : ℕ) → sum f (i + 1) ≡ sum f i + f i
-unfolding sum
-sum-next f i = rw (add-one i)
+use lib.Dec.{lit<}
+use Rattle.reading.specs.declared.Analyte.{Analyte}
+use Rattle.record.specs.Record.{ions, readings, totalNitrogen, organicCarbon, mostMass}
+use Rattle.solution.specs.declared.Charge.{Charge}
+use Rattle.solution.specs.declared.Conductivity.{Conductivity}
+use Rattle.solution.specs.declared.ions.Row.{Row}
+use Rattle.solution.specs.Ions.{chargeUnit, cationFactor, anionFactor, conductance, cationCharge, anionCharge, conducted, sum}
+use Rattle.solution.specs.ByValue.{amountAt}
+use Rattle.solution.specs.Steps.{Small, RowOf, Adds, mostSums, Fits}
+use Rattle.solution.proofs.SumLaws.{sum-le, sum-part}
 
 -- what an ion conducts by both columns
 pub conducts : (i m : ℕ) → conductance i * (cationCharge i * m + anionCharge i * m) ≡ conducted i * m
 conducts i m = ap (λ (x : ℕ). conductance i * x) (sym (add-mul (cationCharge i) (anionCharge i) m)) ∙ sym (mul-assoc (conductance i) (cationCharge i + anionCharge i) m)
 
 -- ---- total nitrogen and organic carbon have no weight
-ions-only : (w a : ℕ → ℕ) → w 8 ≡ 0 → w 9 ≡ 0 → sum (λ i. w i * a i) readings ≡ sum (λ i. w i * a i) ions
+ions-only : (w a : ℕ → ℕ) → w totalNitrogen ≡ 0 → w organicCarbon ≡ 0 → sum (λ i. w i * a i) readings ≡ sum (λ i. w i * a i) ions
 unfolding sum
 ions-only w a x y = rw (x, y) (omega arith)
 
@@ -38,19 +37,64 @@ module _ (a : ℕ → ℕ) where
   unfolding cationFactor anionFactor conductance
   conducted-only = ions-only conducted a refl refl
 
--- ---- the greatest sums
-most : (w : ℕ → ℕ) (s : List ℕ) → sum (λ i. w i * massAt s i) readings ≤ sum (λ i. w i * mostMass) readings
-most w s = sum-le (λ i. w i * massAt s i) (λ i. w i * mostMass) readings (λ i. mul-le-mul-left (w i) (mass-most _))
+-- ---- the greatest sums: of the table with every amount at its greatest. The one test that they fit, computed from these
+pub most-fits : Fits mostSums
+unfolding sum cationFactor anionFactor conductance
+most-fits = record { charges = lit< tt; calculated = lit< tt }
 
-module _ (s : List ℕ) where
-  pub cations-most : sum (λ i. cationCharge i * massAt s i) readings ≤ 60_000_000_000_000
-  unfolding sum cationFactor
-  cations-most = le-trans (most cationCharge s) (lit≤ tt)
+-- no part of a weighed sum is above its greatest: an amount of one ion, a sum so far with the next ion's, and the whole sum
+module _ (w : ℕ → ℕ) where
+  abbrev most : ℕ
+  most = sum (λ i. w i * mostMass) readings
 
-  pub anions-most : sum (λ i. anionCharge i * massAt s i) readings ≤ 40_000_000_000_000
-  unfolding sum anionFactor
-  anions-most = le-trans (most anionCharge s) (lit≤ tt)
+  pub one-most : (i m : ℕ) → i < readings → m ≤ mostMass → w i * m ≤ most
+  one-most i m l h = omega (arith, mul-le-mul-left (w i) h, sum-part (λ i. w i * mostMass) (λ i. w i * mostMass) readings (λ i b. le-refl _) i l)
 
-  pub conducted-most : sum (λ i. conducted i * massAt s i) readings ≤ 70_000_000_000_000_000
-  unfolding sum cationFactor anionFactor conductance
-  conducted-most = le-trans (most conducted s) (lit≤ tt)
+  module _ (analytes : List Analyte) (small : Small analytes) where
+    pub next-most : (i : ℕ) → i < readings → sum (λ k. w k * amountAt analytes k) i + w i * amountAt analytes i ≤ most
+    next-most i l = sum-part (λ k. w k * amountAt analytes k) (λ k. w k * mostMass) readings (λ k b. mul-le-mul-left (w k) (small .most k b)) i l
+
+    pub all-most : sum (λ k. w k * amountAt analytes k) readings ≤ most
+    all-most = sum-le (λ k. w k * amountAt analytes k) (λ k. w k * mostMass) readings (λ k b. mul-le-mul-left (w k) (small .most k b))
+
+-- ---- an amount m of ion i, as the code goes through it: the products by its row fit, and are those of the definition
+charged : (f x y m : ℕ) → y ≡ f → x ≡ chargeUnit * (y * m) → x ≡ chargeUnit * f * m
+charged f x y m e p = rw e at p ∙ sym (mul-assoc chargeUnit f m)
+
+module _ (i m : ℕ) (l : i < ions) (small : m ≤ mostMass) {row : Row} (is : RowOf i row) where
+  fits : (cationCharge i * m + anionCharge i * m < 2 ^ 64) × (conducted i * m < 2 ^ 64)
+  fits =
+      let most = most-fits in
+      let C = one-most cationCharge i m (omega arith) small in
+      let A = one-most anionCharge i m (omega arith) small in
+      let E = one-most conducted i m (omega arith) small in
+      (omega arith, omega arith)
+
+  pub cation-fits : chargeUnit * (row .cation * m) < 2 ^ 64
+  cation-fits = rw (is .cation) (omega (arith, fits .0))
+
+  pub anion-fits : chargeUnit * (row .anion * m) < 2 ^ 64
+  anion-fits = rw (is .anion) (omega (arith, fits .0))
+
+  module _ {cation anion : Charge} (c : cation .0 ≡ chargeUnit * (row .cation * m)) (a : anion .0 ≡ chargeUnit * (row .anion * m)) where
+    both : cation .0 + anion .0 ≡ cationCharge i * m + anionCharge i * m
+    both = ap₂ (λ (x y : ℕ). x + y) (charged (cationFactor i) (cation .0) (row .cation) m (is .cation) c) (charged (anionFactor i) (anion .0) (row .anion) m (is .anion) a)
+
+    pub both-fit : cation .0 + anion .0 < 2 ^ 64
+    both-fit = rw both (fits .0)
+
+    module _ {charge : Charge} (q : charge .0 ≡ cation .0 + anion .0) where
+      conducting : row .conductance * charge .0 ≡ conducted i * m
+      conducting = rw (is .conductance, q ∙ both) (conducts i m)
+
+      pub conducting-fits : row .conductance * charge .0 < 2 ^ 64
+      conducting-fits = rw conducting (fits .1)
+
+      pub adds : {conductivity : Conductivity} → conductivity .0 ≡ row .conductance * charge .0
+          → Adds i m (record { cation = cation; anion = anion; conductivity = conductivity })
+      adds e =
+          record {
+            cation = charged (cationFactor i) (cation .0) (row .cation) m (is .cation) c;
+            anion = charged (anionFactor i) (anion .0) (row .anion) m (is .anion) a;
+            conductivity = e ∙ conducting;
+          }

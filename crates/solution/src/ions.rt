@@ -8,10 +8,9 @@ use reading::Mass;
 use record::IONS;
 ghost use mathlib.Core.Path.{_≡_};
 ghost use Prim.Native.Nat.{_+_, _*_, _^_, _≤_, _<_};
-ghost use Rattle.record.specs.Record.{ions, sodium, chloride, mostMass};
-ghost use Rattle.solution.specs.Ions.{cationCharge, anionCharge, conductance};
-ghost use Rattle.solution.specs.Held.{amountAt, Small};
-ghost use Rattle.solution.specs.Steps.{IonSums};
+ghost use Rattle.record.specs.Record.{ions, mostMass};
+ghost use Rattle.solution.specs.Ions.{chargeUnit};
+ghost use Rattle.solution.specs.Steps.{Small, RowOf, Adds, IonSums, RatioOf};
 
 // Charge in 10^4 u for each µg/L: a column for the cations, one for the anions.
 const CATION: [u64; IONS] = [7139, 4990, 8229, 4350, 2558, 0, 0, 0];
@@ -24,10 +23,24 @@ pub const HYDROGEN_CONDUCTANCE: u64 = 3500;
 
 pub const ALKALINITY_CONDUCTANCE: u64 = 445;
 // u in the unit of the charge columns.
-const COLUMN_UNIT: u64 = 10000;
+const CHARGE_UNIT: u64 = 10000;
+
+// A row of the table.
+struct Row {
+    cation: u64,
+    anion: u64,
+    conductance: u64,
+}
+
+// What an amount of an ion adds to the sums: to one side of the balance, 0 to the other, and to the conductivity.
+pub struct Ion {
+    pub cation: Charge,
+    pub anion: Charge,
+    pub conductivity: Conductivity,
+}
 
 // The sums of the eight ions, and whether none of them is missing.
-pub struct Sums {
+pub struct Eight {
     pub known: bool,
     pub cations: Charge,
     pub anions: Charge,
@@ -60,31 +73,45 @@ impl Conductivity {
     }
 }
 
-// The charge of an ion as a cation and as an anion: one of the two is 0.
-pub fn cation_charge(ion: usize, m: Mass) -> Charge
-    requires { ⌜ (ion < ions) × (m .0 ≤ mostMass) ⌝ }
-    ensures { λ r. ⌜ (r .0 ≡ cationCharge ion * m .0) × (r .0 ≤ 20_000_000_000_000) ⌝ }
+// The charge of an amount, by the entry of a column.
+fn charge(factor: u64, m: Mass) -> Charge
+    requires { ⌜ chargeUnit * (factor * m .0) < 2 ^ 64 ⌝ }
+    ensures { λ r. ⌜ r .0 ≡ chargeUnit * (factor * m .0) ⌝ }
 {
-    Charge(COLUMN_UNIT * CATION[ion] * m.0)
+    Charge(CHARGE_UNIT * (factor * m.0))
 }
 
-pub fn anion_charge(ion: usize, m: Mass) -> Charge
-    requires { ⌜ (ion < ions) × (m .0 ≤ mostMass) ⌝ }
-    ensures { λ r. ⌜ (r .0 ≡ anionCharge ion * m .0) × (r .0 ≤ 20_000_000_000_000) ⌝ }
+// The entries of the three columns for an ion.
+fn row_at(ion: usize) -> Row
+    requires { ⌜ ion < ions ⌝ }
+    ensures { λ r. ⌜ RowOf ion r ⌝ }
 {
-    Charge(COLUMN_UNIT * ANION[ion] * m.0)
+    Row {
+        cation: CATION[ion],
+        anion: ANION[ion],
+        conductance: CONDUCTANCE[ion],
+    }
 }
 
-fn ion_conductivity(ion: usize, q: Charge) -> Conductivity
-    requires { ⌜ (ion < ions) × (q .0 ≤ 40_000_000_000_000) ⌝ }
-    ensures { λ r. ⌜ (r .0 ≡ conductance ion * q .0) × (r .0 ≤ 40_000_000_000_000_000) ⌝ }
+// By its row.
+fn of_ion(ion: usize, m: Mass) -> Ion
+    requires { ⌜ (ion < ions) × (m .0 ≤ mostMass) ⌝ }
+    ensures { λ r. ⌜ Adds ion (m .0) r ⌝ }
 {
-    Conductivity(CONDUCTANCE[ion] * q.0)
+    let row = row_at(ion);
+    let cation = charge(row.cation, m);
+    let anion = charge(row.anion, m);
+    let conductivity = cation.plus(anion).conducting(row.conductance);
+    Ion {
+        cation,
+        anion,
+        conductivity,
+    }
 }
 
 // Of a record's readings. The loop has no way out: a missing ion has no amount, and adds nothing.
-pub fn sums_of(analytes: [Analyte; record::READINGS]) -> Sums
-    requires { ⌜ Small ions analytes ⌝ }
+pub fn sums_of(analytes: [Analyte; record::READINGS]) -> Eight
+    requires { ⌜ Small analytes ⌝ }
     ensures { λ r. ⌜ IonSums analytes r ⌝ }
 {
     let mut known = true;
@@ -95,14 +122,13 @@ pub fn sums_of(analytes: [Analyte; record::READINGS]) -> Sums
     while i < IONS {
         let analyte = analytes[i];
         known = known & analyte.is_present();
-        let cation = cation_charge(i, analyte.mass);
-        let anion = anion_charge(i, analyte.mass);
-        cations = cations.plus(cation);
-        anions = anions.plus(anion);
-        conductivity = conductivity.plus(ion_conductivity(i, cation.plus(anion)));
+        let ion = of_ion(i, analyte.mass);
+        cations = cations.plus(ion.cation);
+        anions = anions.plus(ion.anion);
+        conductivity = conductivity.plus(ion.conductivity);
         i += 1;
     }
-    Sums {
+    Eight {
         known,
         cations,
         anions,
@@ -112,13 +138,14 @@ pub fn sums_of(analytes: [Analyte; record::READINGS]) -> Sums
 
 // The two charges of the sodium/chloride ratio.
 pub fn sodium_chloride(analytes: [Analyte; record::READINGS]) -> SodiumChloride
-    requires { ⌜ Small ions analytes ⌝ }
-    ensures { λ r. ⌜ (r .sodium .0 ≡ cationCharge sodium * amountAt analytes sodium) × (r .chloride .0 ≡ anionCharge chloride * amountAt analytes chloride) ⌝ }
+    requires { ⌜ Small analytes ⌝ }
+    ensures { λ r. ⌜ RatioOf analytes r ⌝ }
 {
     let sodium = analytes[record::SODIUM];
     let chloride = analytes[record::CHLORIDE];
-    SodiumChloride {
-        sodium: cation_charge(record::SODIUM, sodium.mass),
-        chloride: anion_charge(record::CHLORIDE, chloride.mass),
-    }
+    let cation = of_ion(record::SODIUM, sodium.mass);
+    let anion = of_ion(record::CHLORIDE, chloride.mass);
+    let sodium = cation.cation;
+    let chloride = anion.anion;
+    SodiumChloride { sodium, chloride }
 }

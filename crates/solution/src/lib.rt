@@ -4,10 +4,12 @@ mod ions;
 mod ranges;
 mod sums;
 
+use reading::Mass;
 use record::TestedRecord;
 ghost use mathlib.Core.Path.{_≡_};
+ghost use Rattle.record.specs.Tested.{fieldsIn};
 ghost use Rattle.solution.specs.Solutions.{sumsIn};
-ghost use Rattle.solution.specs.Held.{sumsBy};
+ghost use Rattle.solution.specs.ByValue.{sumsBy};
 
 // A charge in u, which is 10^-9 µeq/L, held apart from mass and conductivity by its type.
 pub struct Charge(pub u64);
@@ -32,6 +34,12 @@ pub struct SodiumChloride {
     pub chloride: Charge,
 }
 
+// The two masses of the nitrogen check: of nitrate with ammonium, and of total nitrogen.
+pub struct Nitrogen {
+    pub mineral: Mass,
+    pub total: Mass,
+}
+
 // The sums of a record.
 pub struct Solution {
     // Whether none of the eight ions is missing.
@@ -44,12 +52,13 @@ pub struct Solution {
     pub calculated: Conductivities,
     pub measured: Conductivity,
     pub ratio: SodiumChloride,
+    pub nitrogen: Nitrogen,
 }
 
 // The sums of a record, by its fields and the floor of hydrogen at its pH. Fields that no accepted record has give no sums: so
 // none can be too large for its type.
 pub fn of_fields(own: TestedRecord, floor: u64) -> Solution
-    ensures { λ r. ⌜ sumsIn r ≡ sumsBy own floor ⌝ }
+    ensures { λ r. ⌜ sumsIn r ≡ sumsBy (fieldsIn own) floor ⌝ }
 {
     if !ranges::hold(own, floor) {
         return sums::none();

@@ -5,7 +5,7 @@ use native.Mathlib.Nat.{div-add-mod}
 use native.Mathlib.Omega.{arith}
 use borrow.Author.Needs.{needs}
 use Rattle.hydrogen.specs.Floors.{greatestPh, floorAt}
-use Rattle.hydrogen.specs.Rows.{rowLength}
+use Rattle.hydrogen.specs.Steps.{rowLength}
 use Rattle.hydrogen.proofs.FloorTable.{floors, floor-entry}
 use Rattle.hydrogen.proofs.RowLaws.{row-entry}
 use Rattle.hydrogen.proofs.table.entry.Statement.{statement}

@@ -1,10 +1,4 @@
 -- Each return is what the definition gives by the tests on the way.
-use mathlib.Core.Path.{refl, _∙_}
-use mathlib.Core.Bool.{true}
-use native.Mathlib.Omega.{arith}
-use Rattle.record.specs.Record.{ammonium, nitrate, totalNitrogen}
-use Rattle.judge.specs.Ratios.{nitrogenWindow}
-use Rattle.judge.proofs.Deciding.{same-sums}
 use Rattle.judge.proofs.CheckWays.{no-total, no-nitrate, no-ammonium, nitrogen-decided}
 use borrow.Author.Needs.{needs}
 use Rattle.judge.proofs.nitrogen_check.of_record.Statement.{statement}
@@ -17,7 +11,7 @@ enum-told : tie.Need-enum-told
 enum-told c = search needs
 
 returns : tie.Need-returns
-returns c = no-total _ _ _ (c .enum-told .given .1)
+returns c = no-total _ _ _ _ (c .enum-told .given .1)
 
 array-copy-out-nitrate : tie.Need-array-copy-out-nitrate
 array-copy-out-nitrate c = search needs
@@ -26,7 +20,7 @@ enum-told-2 : tie.Need-enum-told-2
 enum-told-2 c = search needs
 
 returns-2 : tie.Need-returns-2
-returns-2 c = no-nitrate _ _ _ (c .before .before .before .match .keys2) (c .enum-told2 .given .1)
+returns-2 c = no-nitrate _ _ _ _ (c .before .before .before .match .keys2) (c .enum-told2 .given .1)
 
 array-copy-out-ammonium : tie.Need-array-copy-out-ammonium
 array-copy-out-ammonium c = search needs
@@ -36,22 +30,15 @@ enum-told-3 c = search needs
 
 returns-3 : tie.Need-returns-3
 returns-3 c = let nitrate = c .before .before .before in
-    no-ammonium _ _ _ (nitrate .before .before .match .keys2) (nitrate .match2 .keys2) (c .enum-told3 .given .1)
-
-plus-requires : tie.Need-plus-requires
-plus-requires c κs = let p = c .before .before .before .before .before .before .pre in
-    omega (arith, p .most nitrate (omega arith), p .most ammonium (omega arith))
+    no-ammonium _ _ _ _ (nitrate .before .before .match .keys2) (nitrate .match2 .keys2) (c .enum-told3 .given .1)
 
 verdict-requires : tie.Need-verdict-requires
-verdict-requires c κs = let p = c .before .before .before .before .before .before .before .pre in
-    (omega (arith, p .most nitrate (omega arith), p .most ammonium (omega arith)), p .most totalNitrogen (omega arith))
+verdict-requires c κs = search needs
 
 returns-4 : tie.Need-returns-4
-returns-4 c = let ammonium = c .before .before in
+returns-4 c = let ammonium = c .before in
     let nitrate = ammonium .before .before in
-    let sum = c .before .plus .ensures in
-    nitrogen-decided _ _ _ (nitrate .before .before .match .keys2) (nitrate .match2 .keys2) (ammonium .match3 .keys2)
-    (c .verdict .ensures ∙ same-sums nitrogenWindow true sum sum refl refl)
+    nitrogen-decided _ _ _ _ (nitrate .before .before .match .keys2) (nitrate .match2 .keys2) (ammonium .match3 .keys2) (c .verdict .ensures)
 
 pub of-record-spec : {M : Type 1} → statement M
 of-record-spec =
@@ -66,6 +53,5 @@ of-record-spec =
     array-copy-out-ammonium
     enum-told-3
     returns-3
-    plus-requires
     verdict-requires
     returns-4)

@@ -1,4 +1,5 @@
 -- The share is that of the two masses, and its products fit.
+use Rattle.judge.proofs.RoomLaws.{nitrogen-room}
 use borrow.Author.Needs.{needs}
 use Rattle.judge.proofs.nitrogen_check.verdict.Statement.{statement}
 use Rattle.judge.proofs.nitrogen_check.verdict.Tie as tie
@@ -7,7 +8,7 @@ of-masses-requires : tie.Need-of-masses-requires
 of-masses-requires c κs = search needs
 
 decide-requires : tie.Need-decide-requires
-decide-requires c κs = rw (c .of-masses .ensures) (search needs)
+decide-requires c κs = rw (c .of-masses .ensures) (nitrogen-room (c .before .pre))
 
 returns : tie.Need-returns
 returns c = rw (c .before .of-masses .ensures) at (c .decide .ensures)

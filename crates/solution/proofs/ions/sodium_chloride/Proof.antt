@@ -11,14 +11,14 @@ array-copy-out-sodium c = search needs
 array-copy-out-chloride : tie.Need-array-copy-out-chloride
 array-copy-out-chloride c = search needs
 
-cation-charge-requires : tie.Need-cation-charge-requires
-cation-charge-requires c κs = (omega arith, c .before .before .pre .most sodium (omega arith))
+of-ion-requires : tie.Need-of-ion-requires
+of-ion-requires c κs = (omega arith, c .before .before .pre .most sodium (omega arith))
 
-anion-charge-requires : tie.Need-anion-charge-requires
-anion-charge-requires c κs = (omega arith, c .before .before .before .pre .most chloride (omega arith))
+of-ion-requires-2 : tie.Need-of-ion-requires-2
+of-ion-requires-2 c κs = (omega arith, c .before .before .before .pre .most chloride (omega arith))
 
 returns : tie.Need-returns
-returns c = (c .before .cation-charge .ensures .0, c .anion-charge .ensures .0)
+returns c = search needs
 
 pub sodium-chloride-spec : {M : Type 1} → statement M
 sodium-chloride-spec =
@@ -26,6 +26,6 @@ sodium-chloride-spec =
     (tie.spec
     array-copy-out-sodium
     array-copy-out-chloride
-    cation-charge-requires
-    anion-charge-requires
+    of-ion-requires
+    of-ion-requires-2
     returns)

@@ -6,9 +6,9 @@ use Prim.Native.Nat.{ℕ, _-_, _≤_}
 use native.Mathlib.Omega.{arith}
 use lib.Dec.{leb}
 use Rattle.reading.specs.declared.Analyte.{Analyte}
-use Rattle.record.specs.Record.{ions, mostMass, allBelow}
+use Rattle.record.specs.Record.{readings, mostMass, allBelow}
 use Rattle.record.proofs.AllBelow.{all-none, all-next}
-use Rattle.solution.specs.Held.{amountAt, areSmall}
+use Rattle.solution.specs.ByValue.{amountAt, areSmall}
 use borrow.Author.Needs.{needs}
 use Rattle.solution.proofs.ranges.are_small.Statement.{statement}
 use Rattle.solution.proofs.ranges.are_small.Tie as tie
@@ -17,10 +17,10 @@ abbrev small-at : List Analyte → ℕ → Bool
 small-at analytes i = leb (amountAt analytes i) mostMass
 
 abbrev Inv-loop : tie.InvT-loop
-Inv-loop analytes small₀ i₀ small i = (i ≤ ions) × (small ≡ allBelow (small-at analytes) i)
+Inv-loop analytes small₀ i₀ small i = (i ≤ readings) × (small ≡ allBelow (small-at analytes) i)
 
 abbrev μ-loop : tie.MeasureT-loop
-μ-loop analytes small₀ i₀ small i = ions - i
+μ-loop analytes small₀ i₀ small i = readings - i
 
 loop-holds : tie.Need-loop-holds Inv-loop μ-loop
 loop-holds c = (search needs, sym (all-none _))
@@ -44,7 +44,7 @@ loop-again c = let at = c .before .before .before .loop in
 
 returns : tie.Need-returns Inv-loop μ-loop
 unfolding areSmall
-returns c = let e : c .before .loop .i ≡ ions = omega arith in c .before .loop .inv .1 ∙ ap (allBelow (small-at (c .before .before .args .t1))) e
+returns c = let e : c .before .loop .i ≡ readings = omega arith in c .before .loop .inv .1 ∙ ap (allBelow (small-at (c .before .before .args .t1))) e
 
 pub are-small-spec : {M : Type 1} → statement M
 are-small-spec =

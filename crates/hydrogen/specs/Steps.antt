@@ -1,4 +1,4 @@
--- A row of the table of floors, as the code holds it.
+-- The code's own form, which a reader of the promises can pass over: a row of the table of floors.
 use mathlib.Core.List.{List, [], _∷_}
 use Prim.Native.Nat.{ℕ, zero, suc}
 use Rattle.hydrogen.specs.Floors.{floorAt}

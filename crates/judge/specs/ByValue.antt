@@ -1,0 +1,55 @@
+-- Document 01, 'The four checks': what is answered to a record that is held by value, whatever its fields are: a promise of
+-- `judge_tested`, which is handed no words. Where the fields are those of a record, this is the record's own judgement
+-- (`Judgements.judgementOf`), as a law says. A check takes its sums from `solution`, which gives none to fields that no record has.
+use mathlib.Core.Bool.{true}
+use Prim.Native.Nat.{ℕ}
+use Rattle.refusal.specs.Outcome.{Outcome}
+use Rattle.refusal.specs.Outcome.Outcome.{given, refused}
+use Rattle.reading.specs.declared.Analyte.{Analyte}
+use Rattle.reading.specs.Analytes.{present}
+use Rattle.record.specs.Record.{ammonium, sodium, nitrate, chloride, totalNitrogen, organicCarbon}
+use Rattle.record.specs.Tested.{Fields, TestedTerms, analyteAt}
+use Rattle.solution.specs.Solutions.{Sums}
+use Rattle.solution.specs.ByValue.{sumsBy}
+use Rattle.judge.specs.Verdicts.{applied}
+use Rattle.judge.specs.Corners.{decided}
+use Rattle.judge.specs.IonBalance.{balanceApplies, balanceLimit, balanceWindow}
+use Rattle.judge.specs.Conductivity.{conductivityLimit, conductivityWindow}
+use Rattle.judge.specs.Ratios.{sodiumChlorideBy, nitrogenBy}
+use Rattle.judge.specs.Judgements.{Four}
+
+-- each check by what it looks at, and the sums: kind, organic carbon and measured conductivity; measured conductivity alone; kind,
+-- sodium and chloride; total nitrogen, nitrate and ammonium
+unfoldable pub balanceIn : ℕ → Analyte → ℕ → Sums → ℕ
+balanceIn kind carbon measured x =
+    applied (balanceApplies kind (present (carbon .reading)) (carbon .mass .0)) (x .known)
+    (decided (balanceWindow (balanceLimit measured)) (x .whole) (x .leastCations) (x .mostCations) (x .anions) (x .anions))
+
+unfoldable pub conductivityIn : ℕ → Sums → ℕ
+conductivityIn measured x =
+    applied true (x .known)
+    (decided (conductivityWindow (conductivityLimit measured)) (x .whole) (x .leastCalculated) (x .mostCalculated) (x .measured) (x .measured))
+
+unfoldable pub ratioIn : ℕ → Analyte → Analyte → Sums → ℕ
+ratioIn kind na cl x = sodiumChlorideBy kind (present (cl .reading)) (cl .mass .0) (present (na .reading)) (x .sodium) (x .chloride)
+
+unfoldable pub nitrogenIn : Analyte → Analyte → Analyte → Sums → ℕ
+nitrogenIn total nitrate ammonium x = nitrogenBy (present (total .reading)) (present (nitrate .reading)) (present (ammonium .reading)) (x .mineral) (x .total)
+
+-- all four of fields and their sums
+abbrev pub verdictsIn : Fields → Sums → Four
+verdictsIn f x =
+    record {
+      balance = balanceIn (f .kind) (analyteAt (f .analytes) organicCarbon) (f .conductivity) x;
+      conductivity = conductivityIn (f .conductivity) x;
+      ratio = ratioIn (f .kind) (analyteAt (f .analytes) sodium) (analyteAt (f .analytes) chloride) x;
+      nitrogen = nitrogenIn (analyteAt (f .analytes) totalNitrogen) (analyteAt (f .analytes) nitrate) (analyteAt (f .analytes) ammonium) x;
+    }
+
+-- by how the record's own tests ended: the verdicts with the floor of hydrogen that they gave, or the number of the test that refused it
+abbrev pub judgedBy : Outcome ℕ → Fields → Outcome Four
+judgedBy (given floor) f = given (verdictsIn f (sumsBy f floor))
+judgedBy (refused n) f = refused n
+
+unfoldable pub judgedOf : TestedTerms → Outcome Four
+judgedOf t = judgedBy (t .tested) (t .fields)
