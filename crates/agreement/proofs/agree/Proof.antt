@@ -6,18 +6,9 @@ use borrow.Author.Needs.{needs}
 use Rattle.agreement.proofs.agree.Statement.{statement}
 use Rattle.agreement.proofs.agree.Tie as tie
 
-test-requires : tie.Need-test-requires
-test-requires c κs = search needs
-
-test-requires-2 : tie.Need-test-requires-2
-test-requires-2 c κs = search needs
-
-compare-requires : tie.Need-compare-requires
-compare-requires c κs = search needs
-
 returns : tie.Need-returns
 returns c = let second = c .before in
     c .compare .ensures ∙ ap₂ comparedOf (second .before .test .ensures) (second .test2 .ensures) ∙ compared-is _ _
 
 pub agree-spec : {M : Type 1} → statement M
-agree-spec = tie.close (tie.spec test-requires test-requires-2 compare-requires returns)
+agree-spec = tie.close (tie.spec (λ c κs. search needs) (λ c κs. search needs) (λ c κs. search needs) returns)

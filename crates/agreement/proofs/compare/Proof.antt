@@ -6,28 +6,13 @@ use borrow.Author.Needs.{needs}
 use Rattle.agreement.proofs.compare.Statement.{statement}
 use Rattle.agreement.proofs.compare.Tie as tie
 
-enum-known-tested : tie.Need-enum-known-tested
-enum-known-tested c = search needs
-
 returns : tie.Need-returns
 unfolding comparedOf
 returns c = rw (c .before .tested .given .1)
 
-enum-told : tie.Need-enum-told
-enum-told c = search needs
-
-enum-known-tested-2 : tie.Need-enum-known-tested-2
-enum-known-tested-2 c = search needs
-
 returns-2 : tie.Need-returns-2
 unfolding comparedOf
 returns-2 c = rw (c .before .before .before .enum-told .given .1, c .before .tested2 .given .1)
-
-enum-told-2 : tie.Need-enum-told-2
-enum-told-2 c = search needs
-
-agrees-requires : tie.Need-agrees-requires
-agrees-requires c κs = search needs
 
 returns-3 : tie.Need-returns-3
 unfolding comparedOf
@@ -43,12 +28,12 @@ pub compare-spec : {M : Type 1} → statement M
 compare-spec =
     tie.close
     (tie.spec
-    enum-known-tested
+    (λ c. search needs)
     returns
-    enum-told
-    enum-known-tested-2
+    (λ c. search needs)
+    (λ c. search needs)
     returns-2
-    enum-told-2
-    agrees-requires
+    (λ c. search needs)
+    (λ c κs. search needs)
     returns-3
     returns-4)

@@ -5,12 +5,6 @@ use Rattle.batch.proofs.WholeLaws.{read-refused, read-size, read-counts
 use Rattle.batch.proofs.judge_batch.Statement.{statement}
 use Rattle.batch.proofs.judge_batch.Tie as tie
 
-read-requires : tie.Need-read-requires
-read-requires c κs = search needs
-
-enum-known-ended : tie.Need-enum-known-ended
-enum-known-ended c = search needs
-
 mul-judge-samples : tie.Need-mul-judge-samples
 mul-judge-samples c =
     let told = c .before .before .before in
@@ -28,41 +22,17 @@ part-judge-samples-start c =
     let size = read-size _ _ (told .before .before .read .ensures) _ (told .ended .given .1) in
     search needs
 
-part-judge-samples-end : tie.Need-part-judge-samples-end
-part-judge-samples-end c = search needs
-
-sub-judge-samples-2 : tie.Need-sub-judge-samples-2
-sub-judge-samples-2 c = search needs
-
-part-judge-samples-start-2 : tie.Need-part-judge-samples-start-2
-part-judge-samples-start-2 c = search needs
-
 part-judge-samples-end-2 : tie.Need-part-judge-samples-end-2
 part-judge-samples-end-2 c =
     let told = c .before .before .before .before .before in
     let counts = read-counts _ _ (told .before .before .read .ensures) _ (told .ended .given .1) in
     search needs
 
-sub-judge-samples-3 : tie.Need-sub-judge-samples-3
-sub-judge-samples-3 c = search needs
-
-part-judge-samples-start-3 : tie.Need-part-judge-samples-start-3
-part-judge-samples-start-3 c = search needs
-
 part-judge-samples-end-3 : tie.Need-part-judge-samples-end-3
 part-judge-samples-end-3 c =
     let told = c .before .before .before .before .before .before .before in
     let counts = read-counts _ _ (told .before .before .read .ensures) _ (told .ended .given .1) in
     search needs
-
-judge-samples-requires : tie.Need-judge-samples-requires
-judge-samples-requires c κs = search needs
-
-enum-known-ended-2 : tie.Need-enum-known-ended-2
-enum-known-ended-2 c = search needs
-
-same-length : tie.Need-same-length
-same-length c = search needs
 
 returns : tie.Need-returns
 returns c =
@@ -84,20 +54,20 @@ pub judge-batch-spec : {M : Type 1} → statement M
 judge-batch-spec =
     tie.close
     (tie.spec
-    read-requires
-    enum-known-ended
+    (λ c κs. search needs)
+    (λ c. search needs)
     mul-judge-samples
     sub-judge-samples
     part-judge-samples-start
-    part-judge-samples-end
-    sub-judge-samples-2
-    part-judge-samples-start-2
+    (λ c. search needs)
+    (λ c. search needs)
+    (λ c. search needs)
     part-judge-samples-end-2
-    sub-judge-samples-3
-    part-judge-samples-start-3
+    (λ c. search needs)
+    (λ c. search needs)
     part-judge-samples-end-3
-    judge-samples-requires
-    enum-known-ended-2
-    same-length
+    (λ c κs. search needs)
+    (λ c. search needs)
+    (λ c. search needs)
     returns
     returns-2)

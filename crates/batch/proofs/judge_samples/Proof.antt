@@ -4,25 +4,10 @@ use Rattle.batch.proofs.WholeLaws.{made-fits, made-refused, made-over, 
 use Rattle.batch.proofs.judge_samples.Statement.{statement}
 use Rattle.batch.proofs.judge_samples.Tie as tie
 
-slice-aggregate-make-rows : tie.Need-slice-aggregate-make-rows
-slice-aggregate-make-rows c = search needs
-
-make-rows-requires : tie.Need-make-rows-requires
-make-rows-requires c κs = search needs
-
-enum-known-size : tie.Need-enum-known-size
-enum-known-size c = search needs
-
 returns : tie.Need-returns
 returns c =
     let made = c .before .before .before .before .before in
     made-over _ (made .make-rows .last .1 .1 .1 .0) _ (made .make-rows .ensures) _ (c .before .before .size .given .1) _ (c .if1 .taken)
-
-sub-place : tie.Need-sub-place
-sub-place c = search needs
-
-part-place-start : tie.Need-part-place-start
-part-place-start c = search needs
 
 part-place-end : tie.Need-part-place-end
 part-place-end c =
@@ -30,15 +15,6 @@ part-place-end c =
     let made = told .before .before .before in
     let fits = made-fits _ (made .make-rows .last .1 .1 .1 .0) _ (made .make-rows .ensures) _ (told .size .given .1) in
     search needs
-
-place-requires : tie.Need-place-requires
-place-requires c κs = search needs
-
-enum-known-why : tie.Need-enum-known-why
-enum-known-why c = search needs
-
-same-length : tie.Need-same-length
-same-length c = search needs
 
 returns-2 : tie.Need-returns-2
 returns-2 c =
@@ -56,15 +32,15 @@ pub judge-samples-spec : {M : Type 1} → statement M
 judge-samples-spec =
     tie.close
     (tie.spec
-    slice-aggregate-make-rows
-    make-rows-requires
-    enum-known-size
+    (λ c. search needs)
+    (λ c κs. search needs)
+    (λ c. search needs)
     returns
-    sub-place
-    part-place-start
+    (λ c. search needs)
+    (λ c. search needs)
     part-place-end
-    place-requires
-    enum-known-why
-    same-length
+    (λ c κs. search needs)
+    (λ c. search needs)
+    (λ c. search needs)
     returns-2
     returns-3)

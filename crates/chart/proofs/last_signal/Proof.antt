@@ -9,17 +9,8 @@ use borrow.Author.Needs.{needs}
 use Rattle.chart.proofs.last_signal.Statement.{statement}
 use Rattle.chart.proofs.last_signal.Tie as tie
 
-test-requires : tie.Need-test-requires
-test-requires c κs = search needs
-
-enum-known-why : tie.Need-enum-known-why
-enum-known-why c = search needs
-
 returns : tie.Need-returns
 returns c = last-refused _ _ (c .before .before .before .test .ensures) (c .before .why .given .1)
-
-enum-told : tie.Need-enum-told
-enum-told c = search needs
 
 returns-2 : tie.Need-returns-2
 returns-2 c =
@@ -31,9 +22,6 @@ of-values-requires : tie.Need-of-values-requires
 of-values-requires c κs =
     let told = c .before in
     setup-in-room (accepted-valid _ _ (told .before .before .test .ensures) (told .enum-told .given .1))
-
-sub-word : tie.Need-sub-word
-sub-word c = search needs
 
 word-requires : tie.Need-word-requires
 word-requires c κs =
@@ -53,12 +41,12 @@ pub last-signal-spec : {M : Type 1} → statement M
 last-signal-spec =
     tie.close
     (tie.spec
-    test-requires
-    enum-known-why
+    (λ c κs. search needs)
+    (λ c. search needs)
     returns
-    enum-told
+    (λ c. search needs)
     returns-2
     of-values-requires
-    sub-word
+    (λ c. search needs)
     word-requires
     returns-3)

@@ -22,20 +22,11 @@ Inv-loop setup later out₀ prepared i₀ out i =
 abbrev μ-loop : tie.MeasureT-loop
 μ-loop setup later out₀ prepared i₀ out i = length later - i
 
-test-requires : tie.Need-test-requires Inv-loop μ-loop
-test-requires c κs = search needs
-
-enum-known-why : tie.Need-enum-known-why Inv-loop μ-loop
-enum-known-why c = search needs
-
 returns : tie.Need-returns Inv-loop μ-loop
 returns c =
     let test = c .before .before .before in
     let way = refused-before _ (test .before .before .before .before .args .out .now) _ (signals-refused _ _ (test .test .ensures) (c .before .why .given .1)) in
     (way .0, (way .1, never-negative))
-
-enum-told : tie.Need-enum-told Inv-loop μ-loop
-enum-told c = search needs
 
 returns-2 : tie.Need-returns-2 Inv-loop μ-loop
 returns-2 c =
@@ -60,18 +51,6 @@ word-requires c κs =
     let told = made .before .before in
     let valid = accepted-valid _ _ (told .before .before .test .ensures) (told .enum-told .given .1) in
     (rw (made .of-values .ensures) (setup-has-room valid), (c .loop-test .taken, later-in-room valid))
-
-mul-out : tie.Need-mul-out Inv-loop μ-loop
-mul-out c = search needs
-
-slice-write-out : tie.Need-slice-write-out Inv-loop μ-loop
-slice-write-out c = search needs
-
-add-i : tie.Need-add-i Inv-loop μ-loop
-add-i c = search needs
-
-loop-less : tie.Need-loop-less Inv-loop μ-loop
-loop-less c = search needs
 
 loop-again : tie.Need-loop-again Inv-loop μ-loop
 loop-again c =
@@ -102,18 +81,18 @@ signals-spec =
     (tie.spec
     Inv-loop
     μ-loop
-    test-requires
-    enum-known-why
+    (λ c κs. search needs)
+    (λ c. search needs)
     returns
-    enum-told
+    (λ c. search needs)
     returns-2
     of-values-requires
     loop-holds
     word-requires
-    mul-out
-    slice-write-out
-    add-i
-    loop-less
+    (λ c. search needs)
+    (λ c. search needs)
+    (λ c. search needs)
+    (λ c. search needs)
     loop-again
     same-length
     returns-3)

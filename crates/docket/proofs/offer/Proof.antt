@@ -5,37 +5,25 @@ use borrow.Author.Needs.{needs}
 use Rattle.docket.proofs.offer.Statement.{statement}
 use Rattle.docket.proofs.offer.Tie as tie
 
-is-open-requires : tie.Need-is-open-requires
-is-open-requires c κs = search needs
-
 offer-closed-requires : tie.Need-offer-closed-requires
 offer-closed-requires c κs = failed (c .before .is-open .ensures) (c .if1 .taken)
-
-returns : tie.Need-returns
-returns c = search needs
 
 offer-first-requires : tie.Need-offer-first-requires
 offer-first-requires c κs = let opened = c .before .before in
     record { opened = passed (opened .before .is-open .ensures) (opened .if1 .left); none = c .if2 .taken }
 
-returns-2 : tie.Need-returns-2
-returns-2 c = search needs
-
 offer-repeat-requires : tie.Need-offer-repeat-requires
 offer-repeat-requires c κs = let opened = c .before .before in
     record { opened = passed (opened .before .is-open .ensures) (opened .if1 .left); some = ne-eqb _ _ (c .if2 .left) }
-
-returns-3 : tie.Need-returns-3
-returns-3 c = search needs
 
 pub offer-spec : {M : Type 1} → statement M
 offer-spec =
     tie.close
     (tie.spec
-    is-open-requires
+    (λ c κs. search needs)
     offer-closed-requires
-    returns
+    (λ c. search needs)
     offer-first-requires
-    returns-2
+    (λ c. search needs)
     offer-repeat-requires
-    returns-3)
+    (λ c. search needs))

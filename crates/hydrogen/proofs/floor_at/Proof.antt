@@ -15,13 +15,10 @@ returns c =
     let p : ℕ = c .before .args .p in
     (sym (floor-out-of-range p (⊎-elim (λ a. inl (omega arith)) (λ b. inr (omega (arith, ltb-true))) (c .if1 .came))), hydrogen-at p)
 
-entry-requires : tie.Need-entry-requires
-entry-requires c κs = search needs
-
 returns-2 : tie.Need-returns-2
 returns-2 c =
     let p : ℕ = c .before .before .before .args .p in
     (ap given (c .entry .ensures) ∙ sym (floor-in-range p (search needs) (search needs)), hydrogen-at p)
 
 pub floor-at-spec : {M : Type 1} → statement M
-floor-at-spec = tie.close (tie.spec returns entry-requires returns-2)
+floor-at-spec = tie.close (tie.spec returns (λ c κs. search needs) returns-2)

@@ -5,36 +5,6 @@ use borrow.Author.Needs.{needs}
 use Rattle.input.proofs.fill.Statement.{statement}
 use Rattle.input.proofs.fill.Tie as tie
 
-sub-read-full : tie.Need-sub-read-full
-sub-read-full c = search needs
-
-part-read-full-start : tie.Need-part-read-full-start
-part-read-full-start c = search needs
-
-part-read-full-end : tie.Need-part-read-full-end
-part-read-full-end c = search needs
-
-read-full-requires : tie.Need-read-full-requires
-read-full-requires c κs = search needs
-
-sub-unpack : tie.Need-sub-unpack
-sub-unpack c = search needs
-
-part-unpack-start : tie.Need-part-unpack-start
-part-unpack-start c = search needs
-
-part-unpack-end : tie.Need-part-unpack-end
-part-unpack-end c = search needs
-
-unpack-requires : tie.Need-unpack-requires
-unpack-requires c κs = search needs
-
-same-length : tie.Need-same-length
-same-length c = search needs
-
-same-length-2 : tie.Need-same-length-2
-same-length-2 c = search needs
-
 returns : tie.Need-returns
 returns c =
     let made = c .before .before in
@@ -47,14 +17,14 @@ pub fill-spec : {M : Type 1} → statement M
 fill-spec =
     tie.close
     (tie.spec
-    sub-read-full
-    part-read-full-start
-    part-read-full-end
-    read-full-requires
-    sub-unpack
-    part-unpack-start
-    part-unpack-end
-    unpack-requires
-    same-length
-    same-length-2
+    (λ c. search needs)
+    (λ c. search needs)
+    (λ c. search needs)
+    (λ c κs. search needs)
+    (λ c. search needs)
+    (λ c. search needs)
+    (λ c. search needs)
+    (λ c κs. search needs)
+    (λ c. search needs)
+    (λ c. search needs)
     returns)

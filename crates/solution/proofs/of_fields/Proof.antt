@@ -6,12 +6,6 @@ use borrow.Author.Needs.{needs}
 use Rattle.solution.proofs.of_fields.Statement.{statement}
 use Rattle.solution.proofs.of_fields.Tie as tie
 
-hold-requires : tie.Need-hold-requires
-hold-requires c κs = search needs
-
-none-requires : tie.Need-none-requires
-none-requires c κs = search needs
-
 returns : tie.Need-returns
 returns c = c .none .ensures ∙ sums-none _ _ (failed (c .before .before .hold .ensures) (c .before .if1 .taken))
 
@@ -23,4 +17,4 @@ returns-2 c = c .of-ranged .ensures ∙ sums-held _ _ (passed (c .before .before
 
 pub of-fields-spec : {M : Type 1} → statement M
 of-fields-spec =
-    tie.close (tie.spec hold-requires none-requires returns of-ranged-requires returns-2)
+    tie.close (tie.spec (λ c κs. search needs) (λ c κs. search needs) returns of-ranged-requires returns-2)

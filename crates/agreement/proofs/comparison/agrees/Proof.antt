@@ -4,33 +4,12 @@ use borrow.Author.Needs.{needs}
 use Rattle.agreement.proofs.comparison.agrees.Statement.{statement}
 use Rattle.agreement.proofs.comparison.agrees.Tie as tie
 
-ph-agrees-requires : tie.Need-ph-agrees-requires
-ph-agrees-requires c κs = search needs
-
 returns : tie.Need-returns
 returns c = simp (failed (c .before .ph-agrees .ensures) (c .if1 .taken))
-
-cast-agrees-by : tie.Need-cast-agrees-by
-cast-agrees-by c = search needs
-
-cast-agrees-by-2 : tie.Need-cast-agrees-by-2
-cast-agrees-by-2 c = search needs
-
-agrees-by-requires : tie.Need-agrees-by-requires
-agrees-by-requires c κs = search needs
 
 returns-2 : tie.Need-returns-2
 returns-2 c = let ph = c .before .before .before .before in
     simp (passed (ph .before .ph-agrees .ensures) (ph .if1 .left), failed (c .before .agrees-by .ensures) (c .if2 .taken))
-
-cast-agrees-by-3 : tie.Need-cast-agrees-by-3
-cast-agrees-by-3 c = search needs
-
-cast-agrees-by-4 : tie.Need-cast-agrees-by-4
-cast-agrees-by-4 c = search needs
-
-agrees-by-requires-2 : tie.Need-agrees-by-requires-2
-agrees-by-requires-2 c κs = search needs
 
 returns-3 : tie.Need-returns-3
 returns-3 c = let conductivity = c .before .before .before .before in
@@ -40,9 +19,6 @@ returns-3 c = let conductivity = c .before .before .before .before in
       passed (conductivity .before .agrees-by .ensures) (conductivity .if2 .left),
       failed (c .before .agrees-by2 .ensures) (c .if3 .taken),
     )
-
-ions-agree-requires : tie.Need-ions-agree-requires
-ions-agree-requires c κs = search needs
 
 returns-4 : tie.Need-returns-4
 returns-4 c = let alkalinity = c .before .before .before in
@@ -59,15 +35,15 @@ pub agrees-spec : {M : Type 1} → statement M
 agrees-spec =
     tie.close
     (tie.spec
-    ph-agrees-requires
+    (λ c κs. search needs)
     returns
-    cast-agrees-by
-    cast-agrees-by-2
-    agrees-by-requires
+    (λ c. search needs)
+    (λ c. search needs)
+    (λ c κs. search needs)
     returns-2
-    cast-agrees-by-3
-    cast-agrees-by-4
-    agrees-by-requires-2
+    (λ c. search needs)
+    (λ c. search needs)
+    (λ c κs. search needs)
     returns-3
-    ions-agree-requires
+    (λ c κs. search needs)
     returns-4)

@@ -9,9 +9,6 @@ use borrow.Author.Needs.{needs}
 use Rattle.agreement.proofs.comparison.agrees_by.Statement.{statement}
 use Rattle.agreement.proofs.comparison.agrees_by.Tie as tie
 
-sub-result : tie.Need-sub-result
-sub-result c = search needs
-
 returns : tie.Need-returns
 unfolding agreesBy
 returns c =
@@ -29,4 +26,4 @@ returns-2 c =
     rw (e, m) (tenth (a .x - a .y) (a .x))
 
 pub agrees-by-spec : {M : Type 1} → statement M
-agrees-by-spec = tie.close (tie.spec sub-result returns returns-2)
+agrees-by-spec = tie.close (tie.spec (λ c. search needs) returns returns-2)

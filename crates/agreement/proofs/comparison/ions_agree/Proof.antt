@@ -20,30 +20,9 @@ abbrev μ-loop : tie.MeasureT-loop
 loop-holds : tie.Need-loop-holds Inv-loop μ-loop
 loop-holds c = (search needs, all-none _)
 
-mul-first : tie.Need-mul-first Inv-loop μ-loop
-mul-first c = search needs
-
-array-copy-out-first : tie.Need-array-copy-out-first Inv-loop μ-loop
-array-copy-out-first c = search needs
-
-mul-second : tie.Need-mul-second Inv-loop μ-loop
-mul-second c = search needs
-
-array-copy-out-second : tie.Need-array-copy-out-second Inv-loop μ-loop
-array-copy-out-second c = search needs
-
-readings-agree-requires : tie.Need-readings-agree-requires Inv-loop μ-loop
-readings-agree-requires c κs = search needs
-
 returns : tie.Need-returns Inv-loop μ-loop
 returns c = let turn = c .before .before .before .before in
     sym (all-fails _ (turn .before .loop .i) ions (turn .loop-test .taken) (failed (c .before .readings-agree .ensures) (c .if1 .taken)))
-
-add-i : tie.Need-add-i Inv-loop μ-loop
-add-i c = search needs
-
-loop-less : tie.Need-loop-less Inv-loop μ-loop
-loop-less c = search needs
 
 loop-again : tie.Need-loop-again Inv-loop μ-loop
 loop-again c = let l = c .before .before .before .before .before .loop in
@@ -59,13 +38,13 @@ ions-agree-spec =
     Inv-loop
     μ-loop
     loop-holds
-    mul-first
-    array-copy-out-first
-    mul-second
-    array-copy-out-second
-    readings-agree-requires
+    (λ c. search needs)
+    (λ c. search needs)
+    (λ c. search needs)
+    (λ c. search needs)
+    (λ c κs. search needs)
     returns
-    add-i
-    loop-less
+    (λ c. search needs)
+    (λ c. search needs)
     loop-again
     returns-2)

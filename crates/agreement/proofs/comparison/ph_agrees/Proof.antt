@@ -8,9 +8,6 @@ use borrow.Author.Needs.{needs}
 use Rattle.agreement.proofs.comparison.ph_agrees.Statement.{statement}
 use Rattle.agreement.proofs.comparison.ph_agrees.Tie as tie
 
-sub-result : tie.Need-sub-result
-sub-result c = search needs
-
 returns : tie.Need-returns
 unfolding phAgrees
 returns c =
@@ -26,4 +23,4 @@ returns-2 c =
     rw e
 
 pub ph-agrees-spec : {M : Type 1} → statement M
-ph-agrees-spec = tie.close (tie.spec sub-result returns returns-2)
+ph-agrees-spec = tie.close (tie.spec (λ c. search needs) returns returns-2)

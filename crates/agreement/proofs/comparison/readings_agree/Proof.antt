@@ -6,24 +6,12 @@ use borrow.Author.Needs.{needs}
 use Rattle.agreement.proofs.comparison.readings_agree.Statement.{statement}
 use Rattle.agreement.proofs.comparison.readings_agree.Tie as tie
 
-is-present-requires : tie.Need-is-present-requires
-is-present-requires c κs = search needs
-
-is-present-requires-2 : tie.Need-is-present-requires-2
-is-present-requires-2 c κs = search needs
-
 returns : tie.Need-returns
 returns c = simp (failed (c .before .before .is-present .ensures) (c .before .if1 .taken)) (ap not (c .is-present2 .ensures))
-
-is-present-requires-3 : tie.Need-is-present-requires-3
-is-present-requires-3 c κs = search needs
 
 returns-2 : tie.Need-returns-2
 returns-2 c = let first = c .before .before in
     simp (passed (first .before .is-present .ensures) (first .if1 .left), failed (c .before .is-present3 .ensures) (c .if2 .taken))
-
-agrees-by-requires : tie.Need-agrees-by-requires
-agrees-by-requires c κs = search needs
 
 returns-3 : tie.Need-returns-3
 returns-3 c = let second = c .before in
@@ -34,10 +22,10 @@ pub readings-agree-spec : {M : Type 1} → statement M
 readings-agree-spec =
     tie.close
     (tie.spec
-    is-present-requires
-    is-present-requires-2
+    (λ c κs. search needs)
+    (λ c κs. search needs)
     returns
-    is-present-requires-3
+    (λ c κs. search needs)
     returns-2
-    agrees-by-requires
+    (λ c κs. search needs)
     returns-3)

@@ -18,32 +18,11 @@ abbrev μ-loop : tie.MeasureT-loop
 loop-holds : tie.Need-loop-holds Inv-loop μ-loop
 loop-holds c = (search needs, refl)
 
-mul-flagged-by : tie.Need-mul-flagged-by Inv-loop μ-loop
-mul-flagged-by c = search needs
-
-shared-slice-read-flagged-by : tie.Need-shared-slice-read-flagged-by Inv-loop μ-loop
-shared-slice-read-flagged-by c = search needs
-
-mul-flagged-by-2 : tie.Need-mul-flagged-by-2 Inv-loop μ-loop
-mul-flagged-by-2 c = search needs
-
-shared-slice-read-flagged-by-2 : tie.Need-shared-slice-read-flagged-by-2 Inv-loop μ-loop
-shared-slice-read-flagged-by-2 c = search needs
-
-flagged-by-requires : tie.Need-flagged-by-requires Inv-loop μ-loop
-flagged-by-requires c κs = search needs
-
 returns : tie.Need-returns Inv-loop μ-loop
 returns c =
     let found = c .before .before .before .before in
     let turn = found .before in
     sym (turn .loop .inv .1 ∙ flag-found _ _ _ _ (found .loop-test .taken) (search needs) (sym (c .before .flagged-by .ensures) ∙ c .if1 .taken))
-
-add-i : tie.Need-add-i Inv-loop μ-loop
-add-i c = search needs
-
-loop-less : tie.Need-loop-less Inv-loop μ-loop
-loop-less c = search needs
 
 loop-again : tie.Need-loop-again Inv-loop μ-loop
 loop-again c =
@@ -61,13 +40,13 @@ flagged-spec =
     Inv-loop
     μ-loop
     loop-holds
-    mul-flagged-by
-    shared-slice-read-flagged-by
-    mul-flagged-by-2
-    shared-slice-read-flagged-by-2
-    flagged-by-requires
+    (λ c. search needs)
+    (λ c. search needs)
+    (λ c. search needs)
+    (λ c. search needs)
+    (λ c κs. search needs)
     returns
-    add-i
-    loop-less
+    (λ c. search needs)
+    (λ c. search needs)
     loop-again
     returns-2)

@@ -11,9 +11,6 @@ use Rattle.chart.proofs.deviations.beyond.Tie as tie
 mul-apart : tie.Need-mul-apart
 mul-apart c = let S = c .before in omega (arith, times-most (S .pre .0 .few) (S .pre .1 .1))
 
-apart-requires : tie.Need-apart-requires
-apart-requires c κs = search needs
-
 mul-result : tie.Need-mul-result
 mul-result c = let S = c .before .before in omega (arith, square-most (S .pre .1 .0))
 
@@ -25,9 +22,6 @@ mul-result-3 c =
     let gap = c .before in
     let S = gap .before .before in
     omega (arith, gap-most (S .pre .0) (S .pre .1 .1) (gap .apart .ensures))
-
-sub-result : tie.Need-sub-result
-sub-result c = search needs
 
 mul-result-4 : tie.Need-mul-result-4
 mul-result-4 c =
@@ -46,4 +40,4 @@ returns c =
 pub beyond-spec : {M : Type 1} → statement M
 beyond-spec =
     tie.close
-    (tie.spec mul-apart apart-requires mul-result mul-result-2 mul-result-3 sub-result mul-result-4 returns)
+    (tie.spec mul-apart (λ c κs. search needs) mul-result mul-result-2 mul-result-3 (λ c. search needs) mul-result-4 returns)

@@ -11,15 +11,6 @@ returns : tie.Need-returns
 unfolding hasPartner
 returns c = rw (lt-leb _ _ (c .if1 .taken))
 
-mul-other : tie.Need-mul-other
-mul-other c = search needs
-
-shared-slice-read-other : tie.Need-shared-slice-read-other
-shared-slice-read-other c = search needs
-
-slice-aggregate-on-one-side : tie.Need-slice-aggregate-on-one-side
-slice-aggregate-on-one-side c = search needs
-
 on-one-side-requires : tie.Need-on-one-side-requires
 on-one-side-requires c κs =
     let S = c .before .before .before .before in
@@ -41,9 +32,9 @@ has-partner-spec =
     tie.close
     (tie.spec
     returns
-    mul-other
-    shared-slice-read-other
-    slice-aggregate-on-one-side
+    (λ c. search needs)
+    (λ c. search needs)
+    (λ c. search needs)
     on-one-side-requires
     beyond-requires
     returns-2)

@@ -7,12 +7,6 @@ use borrow.Author.Needs.{needs}
 use Rattle.chart.proofs.rules.pair_beyond_two.Statement.{statement}
 use Rattle.chart.proofs.rules.pair_beyond_two.Tie as tie
 
-mul-value : tie.Need-mul-value
-mul-value c = search needs
-
-shared-slice-read-value : tie.Need-shared-slice-read-value
-shared-slice-read-value c = search needs
-
 beyond-requires : tie.Need-beyond-requires
 beyond-requires c κs =
     let S = c .before .before in
@@ -47,8 +41,8 @@ pub pair-beyond-two-spec : {M : Type 1} → statement M
 pair-beyond-two-spec =
     tie.close
     (tie.spec
-    mul-value
-    shared-slice-read-value
+    (λ c. search needs)
+    (λ c. search needs)
     beyond-requires
     returns
     has-partner-requires

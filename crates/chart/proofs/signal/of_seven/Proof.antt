@@ -14,34 +14,10 @@ returns c =
     let none = too-early (termsOf (S .args .setup)) (S .args .later .now) (S .args .i) (omega arith) in
     rw (none .0, none .1) (refl, omega arith)
 
-add-end : tie.Need-add-end
-add-end c = search needs
-
-mul-seven : tie.Need-mul-seven
-mul-seven c = search needs
-
-sub-seven : tie.Need-sub-seven
-sub-seven c = search needs
-
-part-seven-start : tie.Need-part-seven-start
-part-seven-start c = search needs
-
-part-seven-end : tie.Need-part-seven-end
-part-seven-end c = search needs
-
 on-one-side-requires : tie.Need-on-one-side-requires
 on-one-side-requires c κs =
     let S = c .before .before .before in
     (S .pre .0 .few, search room-part)
-
-weight-requires : tie.Need-weight-requires
-weight-requires c κs = search needs
-
-in-order-requires : tie.Need-in-order-requires
-in-order-requires c κs = search needs
-
-weight-requires-2 : tie.Need-weight-requires-2
-weight-requires-2 c κs = search needs
 
 add-result : tie.Need-add-result
 add-result c = omega (arith, c .before .before .weight .ensures .1, c .weight2 .ensures .1)
@@ -62,14 +38,14 @@ of-seven-spec =
     tie.close
     (tie.spec
     returns
-    add-end
-    mul-seven
-    sub-seven
-    part-seven-start
-    part-seven-end
+    (λ c. search needs)
+    (λ c. search needs)
+    (λ c. search needs)
+    (λ c. search needs)
+    (λ c. search needs)
     on-one-side-requires
-    weight-requires
-    in-order-requires
-    weight-requires-2
+    (λ c κs. search needs)
+    (λ c κs. search needs)
+    (λ c κs. search needs)
     add-result
     returns-2)

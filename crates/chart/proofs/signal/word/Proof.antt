@@ -8,25 +8,13 @@ use borrow.Author.Needs.{needs}
 use Rattle.chart.proofs.signal.word.Statement.{statement}
 use Rattle.chart.proofs.signal.word.Tie as tie
 
-mul-beyond : tie.Need-mul-beyond
-mul-beyond c = search needs
-
-shared-slice-read-beyond : tie.Need-shared-slice-read-beyond
-shared-slice-read-beyond c = search needs
-
 beyond-requires : tie.Need-beyond-requires
 beyond-requires c κs =
     let S = c .before .before in
     (S .pre .0, (omega arith, room-at (S .args .later .now) (S .args .i) (S .pre .1 .1)))
 
-weight-requires : tie.Need-weight-requires
-weight-requires c κs = search needs
-
 pair-beyond-two-requires : tie.Need-pair-beyond-two-requires
 pair-beyond-two-requires c κs = c .before .before .before .before .pre
-
-weight-requires-2 : tie.Need-weight-requires-2
-weight-requires-2 c κs = search needs
 
 add-result : tie.Need-add-result
 add-result c = omega (arith, c .before .before .weight .ensures .1, c .weight2 .ensures .1)
@@ -53,12 +41,12 @@ pub word-spec : {M : Type 1} → statement M
 word-spec =
     tie.close
     (tie.spec
-    mul-beyond
-    shared-slice-read-beyond
+    (λ c. search needs)
+    (λ c. search needs)
     beyond-requires
-    weight-requires
+    (λ c κs. search needs)
     pair-beyond-two-requires
-    weight-requires-2
+    (λ c κs. search needs)
     add-result
     of-seven-requires
     add-result-2

@@ -9,18 +9,9 @@ use borrow.Author.Needs.{needs}
 use Rattle.chart.proofs.values.test.Statement.{statement}
 use Rattle.chart.proofs.values.test.Tie as tie
 
-counts-fit-requires : tie.Need-counts-fit-requires
-counts-fit-requires c κs = search needs
-
 returns : tie.Need-returns
 unfolding testOf
 returns c = sym (counts-refused _ _ (given tt) (failed (c .before .counts-fit .ensures) (c .if1 .taken)))
-
-are-values-requires : tie.Need-are-values-requires
-are-values-requires c κs = search needs
-
-are-values-requires-2 : tie.Need-are-values-requires-2
-are-values-requires-2 c κs = search needs
 
 returns-2 : tie.Need-returns-2
 unfolding testOf
@@ -42,4 +33,4 @@ returns-3 c =
 pub test-spec : {M : Type 1} → statement M
 test-spec =
     tie.close
-    (tie.spec counts-fit-requires returns are-values-requires are-values-requires-2 returns-2 returns-3)
+    (tie.spec (λ c κs. search needs) returns (λ c κs. search needs) (λ c κs. search needs) returns-2 returns-3)

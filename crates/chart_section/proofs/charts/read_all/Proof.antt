@@ -16,45 +16,6 @@ abbrev μ-loop : tie.MeasureT-loop
 loop-holds : tie.Need-loop-holds Inv-loop μ-loop
 loop-holds c = charts-begun _ _ (c .before .pre)
 
-mul-read-one : tie.Need-mul-read-one Inv-loop μ-loop
-mul-read-one c = search needs
-
-sub-read-one : tie.Need-sub-read-one Inv-loop μ-loop
-sub-read-one c = search needs
-
-part-read-one-start : tie.Need-part-read-one-start Inv-loop μ-loop
-part-read-one-start c = search needs
-
-part-read-one-end : tie.Need-part-read-one-end Inv-loop μ-loop
-part-read-one-end c = search needs
-
-sub-read-one-2 : tie.Need-sub-read-one-2 Inv-loop μ-loop
-sub-read-one-2 c = search needs
-
-part-read-one-start-2 : tie.Need-part-read-one-start-2 Inv-loop μ-loop
-part-read-one-start-2 c = search needs
-
-part-read-one-end-2 : tie.Need-part-read-one-end-2 Inv-loop μ-loop
-part-read-one-end-2 c = search needs
-
-read-one-requires : tie.Need-read-one-requires Inv-loop μ-loop
-read-one-requires c κs = search needs
-
-enum-known-element : tie.Need-enum-known-element Inv-loop μ-loop
-enum-known-element c = search needs
-
-mul-elements : tie.Need-mul-elements Inv-loop μ-loop
-mul-elements c = search needs
-
-array-write-elements : tie.Need-array-write-elements Inv-loop μ-loop
-array-write-elements c = search needs
-
-mul-signals : tie.Need-mul-signals Inv-loop μ-loop
-mul-signals c = search needs
-
-array-write-signals : tie.Need-array-write-signals Inv-loop μ-loop
-array-write-signals c = search needs
-
 add-at : tie.Need-add-at Inv-loop μ-loop
 add-at c =
     let turn = c .before .before .before in
@@ -64,12 +25,6 @@ add-at c =
     let n = charts-next words _ _ (loop .at) _ _ (loop .inv) (test .loop-test .taken) (turn .read-one .ensures) (c .before .element .given .1) in
     record { fits = omega (arith, n .2) }
 
-add-i : tie.Need-add-i Inv-loop μ-loop
-add-i c = search needs
-
-loop-less : tie.Need-loop-less Inv-loop μ-loop
-loop-less c = search needs
-
 loop-again : tie.Need-loop-again Inv-loop μ-loop
 loop-again c =
     let turn = c .before .before .before in
@@ -77,12 +32,6 @@ loop-again c =
     let loop = test .before .loop in
     let words = now (test .before .before .before .args .words) in
     charts-next words _ _ (loop .at) _ _ (loop .inv) (test .loop-test .taken) (turn .read-one .ensures) (c .before .element .given .1)
-
-enum-known-why : tie.Need-enum-known-why Inv-loop μ-loop
-enum-known-why c = search needs
-
-refused-requires : tie.Need-refused-requires Inv-loop μ-loop
-refused-requires c κs = search needs
 
 returns : tie.Need-returns Inv-loop μ-loop
 returns c =
@@ -103,24 +52,24 @@ read-all-spec =
     Inv-loop
     μ-loop
     loop-holds
-    mul-read-one
-    sub-read-one
-    part-read-one-start
-    part-read-one-end
-    sub-read-one-2
-    part-read-one-start-2
-    part-read-one-end-2
-    read-one-requires
-    enum-known-element
-    mul-elements
-    array-write-elements
-    mul-signals
-    array-write-signals
+    (λ c. search needs)
+    (λ c. search needs)
+    (λ c. search needs)
+    (λ c. search needs)
+    (λ c. search needs)
+    (λ c. search needs)
+    (λ c. search needs)
+    (λ c κs. search needs)
+    (λ c. search needs)
+    (λ c. search needs)
+    (λ c. search needs)
+    (λ c. search needs)
+    (λ c. search needs)
     add-at
-    add-i
-    loop-less
+    (λ c. search needs)
+    (λ c. search needs)
     loop-again
-    enum-known-why
-    refused-requires
+    (λ c. search needs)
+    (λ c κs. search needs)
     returns
     returns-2)

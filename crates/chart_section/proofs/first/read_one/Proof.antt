@@ -9,27 +9,6 @@ use Rattle.chart_section.proofs.first.read_one.Tie as tie
 returns : tie.Need-returns
 returns c = chart-short _ _ (c .if1 .taken)
 
-shared-slice-read-element : tie.Need-shared-slice-read-element
-shared-slice-read-element c = search needs
-
-shared-slice-read-wide : tie.Need-shared-slice-read-wide
-shared-slice-read-wide c = search needs
-
-wide-requires : tie.Need-wide-requires
-wide-requires c κs = search needs
-
-shared-slice-read-wide-2 : tie.Need-shared-slice-read-wide-2
-shared-slice-read-wide-2 c = search needs
-
-wide-requires-2 : tie.Need-wide-requires-2
-wide-requires-2 c κs = search needs
-
-is-new-element-requires : tie.Need-is-new-element-requires
-is-new-element-requires c κs = search needs
-
-counts-fit-requires : tie.Need-counts-fit-requires
-counts-fit-requires c κs = search needs
-
 returns-2 : tie.Need-returns-2
 returns-2 c =
     let new = c .before .before in
@@ -71,13 +50,13 @@ read-one-spec =
     tie.close
     (tie.spec
     returns
-    shared-slice-read-element
-    shared-slice-read-wide
-    wide-requires
-    shared-slice-read-wide-2
-    wide-requires-2
-    is-new-element-requires
-    counts-fit-requires
+    (λ c. search needs)
+    (λ c. search needs)
+    (λ c κs. search needs)
+    (λ c. search needs)
+    (λ c κs. search needs)
+    (λ c κs. search needs)
+    (λ c κs. search needs)
     returns-2
     returns-3
     read-values-requires

@@ -20,36 +20,6 @@ returns c =
     let start = c .before .before in
     values-short _ _ _ _ (omega (arith, length-drop headWords (now (start .args .words)), c .if1 .taken))
 
-sub-last-signal : tie.Need-sub-last-signal
-sub-last-signal c = search needs
-
-part-last-signal-start : tie.Need-part-last-signal-start
-part-last-signal-start c = search needs
-
-part-last-signal-end : tie.Need-part-last-signal-end
-part-last-signal-end c = search needs
-
-mul-last-signal : tie.Need-mul-last-signal
-mul-last-signal c = search needs
-
-sub-last-signal-2 : tie.Need-sub-last-signal-2
-sub-last-signal-2 c = search needs
-
-part-last-signal-start-2 : tie.Need-part-last-signal-start-2
-part-last-signal-start-2 c = search needs
-
-part-last-signal-end-2 : tie.Need-part-last-signal-end-2
-part-last-signal-end-2 c = search needs
-
-last-signal-requires : tie.Need-last-signal-requires
-last-signal-requires c κs = search needs
-
-enum-known-signal : tie.Need-enum-known-signal
-enum-known-signal c = search needs
-
-enum-known-why : tie.Need-enum-known-why
-enum-known-why c = search needs
-
 returns-2 : tie.Need-returns-2
 returns-2 c =
     let last = c .before .before .before in
@@ -71,15 +41,15 @@ read-values-spec =
     add-middle
     add-end
     returns
-    sub-last-signal
-    part-last-signal-start
-    part-last-signal-end
-    mul-last-signal
-    sub-last-signal-2
-    part-last-signal-start-2
-    part-last-signal-end-2
-    last-signal-requires
-    enum-known-signal
-    enum-known-why
+    (λ c. search needs)
+    (λ c. search needs)
+    (λ c. search needs)
+    (λ c. search needs)
+    (λ c. search needs)
+    (λ c. search needs)
+    (λ c. search needs)
+    (λ c κs. search needs)
+    (λ c. search needs)
+    (λ c. search needs)
     returns-2
     returns-3)

@@ -15,27 +15,6 @@ Inv-loop words held₀ i₀ held i = (i ≤ recordWords) × (length held ≡ rec
 abbrev μ-loop : tie.MeasureT-loop
 μ-loop words held₀ i₀ held i = recordWords - i
 
-loop-holds : tie.Need-loop-holds Inv-loop μ-loop
-loop-holds c = search needs
-
-mul-held : tie.Need-mul-held Inv-loop μ-loop
-mul-held c = search needs
-
-shared-slice-read-held : tie.Need-shared-slice-read-held Inv-loop μ-loop
-shared-slice-read-held c = search needs
-
-mul-held-2 : tie.Need-mul-held-2 Inv-loop μ-loop
-mul-held-2 c = search needs
-
-array-write-held : tie.Need-array-write-held Inv-loop μ-loop
-array-write-held c = search needs
-
-add-i : tie.Need-add-i Inv-loop μ-loop
-add-i c = search needs
-
-loop-less : tie.Need-loop-less Inv-loop μ-loop
-loop-less c = search needs
-
 loop-again : tie.Need-loop-again Inv-loop μ-loop
 loop-again c =
     let at = c .before .before in
@@ -56,12 +35,12 @@ copied-spec =
     (tie.spec
     Inv-loop
     μ-loop
-    loop-holds
-    mul-held
-    shared-slice-read-held
-    mul-held-2
-    array-write-held
-    add-i
-    loop-less
+    (λ c. search needs)
+    (λ c. search needs)
+    (λ c. search needs)
+    (λ c. search needs)
+    (λ c. search needs)
+    (λ c. search needs)
+    (λ c. search needs)
     loop-again
     returns)

@@ -15,21 +15,6 @@ returns : tie.Need-returns
 unfolding floors
 returns c = rw (c .if1 .taken) (sym (floor-entry greatestPh (omega arith) (omega arith)))
 
-cast-row : tie.Need-cast-row
-cast-row c = search needs
-
-div-row : tie.Need-div-row
-div-row c = search needs
-
-row-requires : tie.Need-row-requires
-row-requires c κs = search needs
-
-mul-result : tie.Need-mul-result
-mul-result c = search needs
-
-array-read-result : tie.Need-array-read-result
-array-read-result c = search needs
-
 returns-2 : tie.Need-returns-2
 returns-2 c =
     let p : ℕ = c .before .before .args .p in
@@ -37,4 +22,4 @@ returns-2 c =
     (row-entry (rowLength * (p / rowLength)) rowLength (p % rowLength) (omega arith) ∙ ap floorAt (div-add-mod p rowLength))
 
 pub entry-spec : {M : Type 1} → statement M
-entry-spec = tie.close (tie.spec returns cast-row div-row row-requires mul-result array-read-result returns-2)
+entry-spec = tie.close (tie.spec returns (λ c. search needs) (λ c. search needs) (λ c κs. search needs) (λ c. search needs) (λ c. search needs) returns-2)

@@ -8,27 +8,12 @@ use borrow.Author.Needs.{needs}
 use Rattle.judge.proofs.balance_check.of_record.Statement.{statement}
 use Rattle.judge.proofs.balance_check.of_record.Tie as tie
 
-array-copy-out-carbon : tie.Need-array-copy-out-carbon
-array-copy-out-carbon c = search needs
-
-applies-requires : tie.Need-applies-requires
-applies-requires c κs = search needs
-
 returns : tie.Need-returns
 returns c = balance-not _ _ _ _ (failed (c .before .applies .ensures) (c .if1 .taken))
 
 returns-2 : tie.Need-returns-2
 returns-2 c = let kind = c .before .before in
     balance-missing _ _ _ _ (passed (kind .before .applies .ensures) (kind .if1 .left)) (not-true (kind .before .before .before .args .solution .known) (c .if2 .taken))
-
-of-charges-requires : tie.Need-of-charges-requires
-of-charges-requires c κs = search needs
-
-of-charges-requires-2 : tie.Need-of-charges-requires-2
-of-charges-requires-2 c κs = search needs
-
-window-at-requires : tie.Need-window-at-requires
-window-at-requires c κs = search needs
 
 decide-requires : tie.Need-decide-requires
 decide-requires c κs = let start = c .before .before .before .before .before .before .before .before in
@@ -45,12 +30,12 @@ pub of-record-spec : {M : Type 1} → statement M
 of-record-spec =
     tie.close
     (tie.spec
-    array-copy-out-carbon
-    applies-requires
+    (λ c. search needs)
+    (λ c κs. search needs)
     returns
     returns-2
-    of-charges-requires
-    of-charges-requires-2
-    window-at-requires
+    (λ c κs. search needs)
+    (λ c κs. search needs)
+    (λ c κs. search needs)
     decide-requires
     returns-3)

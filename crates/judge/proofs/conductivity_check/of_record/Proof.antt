@@ -10,15 +10,6 @@ use Rattle.judge.proofs.conductivity_check.of_record.Tie as tie
 returns : tie.Need-returns
 returns c = conductivity-missing _ _ (not-true (c .before .before .args .solution .known) (c .if1 .taken))
 
-of-conductivities-requires : tie.Need-of-conductivities-requires
-of-conductivities-requires c κs = search needs
-
-of-conductivities-requires-2 : tie.Need-of-conductivities-requires-2
-of-conductivities-requires-2 c κs = search needs
-
-window-at-requires : tie.Need-window-at-requires
-window-at-requires c κs = search needs
-
 decide-requires : tie.Need-decide-requires
 decide-requires c κs = let start = c .before .before .before .before .before in
     rw (c .window-at .ensures, c .before .of-conductivities2 .ensures, c .before .before .of-conductivities .ensures) (conductivity-room (start .args .measured) (sumsIn (start .args .solution)) (start .pre))
@@ -30,4 +21,4 @@ returns-2 c = let made = c .before .before in
     (rw (c .before .window-at .ensures, made .of-conductivities2 .ensures, made .before .of-conductivities .ensures) at (c .decide .ensures))
 
 pub of-record-spec : {M : Type 1} → statement M
-of-record-spec = tie.close (tie.spec returns of-conductivities-requires of-conductivities-requires-2 window-at-requires decide-requires returns-2)
+of-record-spec = tie.close (tie.spec returns (λ c κs. search needs) (λ c κs. search needs) (λ c κs. search needs) decide-requires returns-2)

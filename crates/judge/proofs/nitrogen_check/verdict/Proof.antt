@@ -4,9 +4,6 @@ use borrow.Author.Needs.{needs}
 use Rattle.judge.proofs.nitrogen_check.verdict.Statement.{statement}
 use Rattle.judge.proofs.nitrogen_check.verdict.Tie as tie
 
-of-masses-requires : tie.Need-of-masses-requires
-of-masses-requires c κs = search needs
-
 decide-requires : tie.Need-decide-requires
 decide-requires c κs = rw (c .of-masses .ensures) (nitrogen-room (c .before .pre))
 
@@ -14,4 +11,4 @@ returns : tie.Need-returns
 returns c = rw (c .before .of-masses .ensures) at (c .decide .ensures)
 
 pub verdict-spec : {M : Type 1} → statement M
-verdict-spec = tie.close (tie.spec of-masses-requires decide-requires returns)
+verdict-spec = tie.close (tie.spec (λ c κs. search needs) decide-requires returns)

@@ -6,11 +6,8 @@ use borrow.Author.Needs.{needs}
 use Rattle.judge.proofs.passing.is_passed.Statement.{statement}
 use Rattle.judge.proofs.passing.is_passed.Tie as tie
 
-number-requires : tie.Need-number-requires
-number-requires c κs = search needs
-
 returns : tie.Need-returns
 returns c = ap (λ (x : ℕ). leb x 1) (c .number .ensures)
 
 pub is-passed-spec : {M : Type 1} → statement M
-is-passed-spec = tie.close (tie.spec number-requires returns)
+is-passed-spec = tie.close (tie.spec (λ c κs. search needs) returns)

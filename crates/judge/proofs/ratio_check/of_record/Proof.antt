@@ -8,12 +8,6 @@ use Rattle.judge.proofs.ratio_check.of_record.Tie as tie
 returns : tie.Need-returns
 returns c = other-kind _ _ _ _ (lt-leb _ _ (c .if1 .taken))
 
-array-copy-out-chloride : tie.Need-array-copy-out-chloride
-array-copy-out-chloride c = search needs
-
-enum-told : tie.Need-enum-told
-enum-told c = search needs
-
 returns-2 : tie.Need-returns-2
 returns-2 c = no-chloride _ _ _ _ (le-leb _ _ (c .before .before .before .if1 .left)) (c .enum-told .given .1)
 
@@ -21,19 +15,10 @@ returns-3 : tie.Need-returns-3
 returns-3 c = let there = c .before .before in
     chloride-zero _ _ _ _ (le-leb _ _ (there .before .before .if1 .left)) (there .match .keys2) (eq-eqb _ _ (c .if2 .taken))
 
-array-copy-out-sodium : tie.Need-array-copy-out-sodium
-array-copy-out-sodium c = search needs
-
-enum-told-2 : tie.Need-enum-told-2
-enum-told-2 c = search needs
-
 returns-4 : tie.Need-returns-4
 returns-4 c = let some = c .before .before .before in
     let there = some .before .before in
     no-sodium _ _ _ _ (le-leb _ _ (there .before .before .if1 .left)) (there .match .keys2) (ne-eqb _ _ (some .if2 .left)) (c .enum-told2 .given .1)
-
-verdict-requires : tie.Need-verdict-requires
-verdict-requires c κs = search needs
 
 returns-5 : tie.Need-returns-5
 returns-5 c = let both = c .before in
@@ -47,12 +32,12 @@ of-record-spec =
     tie.close
     (tie.spec
     returns
-    array-copy-out-chloride
-    enum-told
+    (λ c. search needs)
+    (λ c. search needs)
     returns-2
     returns-3
-    array-copy-out-sodium
-    enum-told-2
+    (λ c. search needs)
+    (λ c. search needs)
     returns-4
-    verdict-requires
+    (λ c κs. search needs)
     returns-5)

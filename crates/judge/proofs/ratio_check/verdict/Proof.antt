@@ -4,9 +4,6 @@ use borrow.Author.Needs.{needs}
 use Rattle.judge.proofs.ratio_check.verdict.Statement.{statement}
 use Rattle.judge.proofs.ratio_check.verdict.Tie as tie
 
-of-charges-requires : tie.Need-of-charges-requires
-of-charges-requires c κs = search needs
-
 decide-requires : tie.Need-decide-requires
 decide-requires c κs = rw (c .of-charges .ensures) (ratio-room (c .before .pre))
 
@@ -14,4 +11,4 @@ returns : tie.Need-returns
 returns c = rw (c .before .of-charges .ensures) at (c .decide .ensures)
 
 pub verdict-spec : {M : Type 1} → statement M
-verdict-spec = tie.close (tie.spec of-charges-requires decide-requires returns)
+verdict-spec = tie.close (tie.spec (λ c κs. search needs) decide-requires returns)

@@ -3,12 +3,6 @@ use borrow.Author.Needs.{needs}
 use Rattle.judge.proofs.window.is_above.Statement.{statement}
 use Rattle.judge.proofs.window.is_above.Tie as tie
 
-mul-left : tie.Need-mul-left
-mul-left c = search needs
-
-mul-right : tie.Need-mul-right
-mul-right c = search needs
-
 returns : tie.Need-returns
 returns c = rw (c .if1 .taken)
 
@@ -16,4 +10,4 @@ returns-2 : tie.Need-returns-2
 returns-2 c = rw (c .if1 .left)
 
 pub is-above-spec : {M : Type 1} → statement M
-is-above-spec = tie.close (tie.spec mul-left mul-right returns returns-2)
+is-above-spec = tie.close (tie.spec (λ c. search needs) (λ c. search needs) returns returns-2)

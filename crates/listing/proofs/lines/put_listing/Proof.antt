@@ -50,9 +50,6 @@ loop-again c =
     let next = rows-next words (at .loop .from) (at .loop .left) (search needs) in
     (search needs, left-next (at .loop .inv .1) next (put .put-row .ensures .1) (put .put-row .ensures .0))
 
-same-length : tie.Need-same-length Inv-loop μ-loop
-same-length c = search needs
-
 returns : tie.Need-returns Inv-loop μ-loop
 unfolding listingText line
 returns c =
@@ -80,5 +77,5 @@ put-listing-spec =
     (λ c. search needs)
     (λ c. search needs)
     loop-again
-    same-length
+    (λ c. search needs)
     returns)

@@ -25,17 +25,8 @@ returns-3 c =
     let held = subst T (sym (c .before .known-told2 .given .0 .1)) tt in
     c .mass-of-value2 .ensures ∙ exact-half _ held limit .amount ∙ below-mass _ limit ∙ sym (ap massOf told)
 
-enum-told : tie.Need-enum-told
-enum-told c = search needs
-
-enum-known-reading : tie.Need-enum-known-reading
-enum-known-reading c = search needs
-
 mass-of-value-requires : tie.Need-mass-of-value-requires
 mass-of-value-requires c κs = sym (ap isInRange (c .before .reading .given .1)) ∙ c .before .before .before .pre
-
-enum-known-reading-2 : tie.Need-enum-known-reading-2
-enum-known-reading-2 c = search needs
 
 mass-of-value-requires-2 : tie.Need-mass-of-value-requires-2
 mass-of-value-requires-2 c κs =
@@ -45,10 +36,10 @@ pub of-reading-spec : {M : Type 1} → statement M
 of-reading-spec =
     tie.close
     (tie.spec
-    enum-told
-    enum-known-reading
+    (λ c. search needs)
+    (λ c. search needs)
     mass-of-value-requires
-    enum-known-reading-2
+    (λ c. search needs)
     mass-of-value-requires-2
     returns
     returns-2

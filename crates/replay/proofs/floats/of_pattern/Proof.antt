@@ -13,14 +13,8 @@ use Rattle.replay.proofs.floats.of_pattern.Tie as tie
 no-nan : (b : ℕ) → b % 0x8000_0000 ≤ 0x7F80_0000 → T (not (nanBits binary32 b))
 no-nan b h = subst (λ (t : Bool). T (not t)) (sym (nanBits-above binary32 b ∙ le-ltb 0x7F80_0000 (b % 0x8000_0000) h)) tt
 
-returns : tie.Need-returns
-returns c = search needs
-
 float-from-bits-result : tie.Need-float-from-bits-result
 float-from-bits-result c = no-nan (c .before .args .bits) (c .if1 .left)
 
-returns-2 : tie.Need-returns-2
-returns-2 c = search needs
-
 pub of-pattern-spec : {M : Type 1} → statement M
-of-pattern-spec = tie.close (tie.spec returns float-from-bits-result returns-2)
+of-pattern-spec = tie.close (tie.spec (λ c. search needs) float-from-bits-result (λ c. search needs))

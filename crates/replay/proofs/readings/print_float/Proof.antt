@@ -13,31 +13,16 @@ differs-not nan h = absurd (true≢false h)
 differs-not (inf s) h = tt
 differs-not (fin s m e) h = tt
 
-slice-aggregate-text : tie.Need-slice-aggregate-text
-slice-aggregate-text c = search needs
-
-text-requires : tie.Need-text-requires
-text-requires c κs = search needs
-
-returns : tie.Need-returns
-returns c = search needs
-
 float-to-bits-word : tie.Need-float-to-bits-word
 float-to-bits-word c = differs-not (c .before .before .args .x) (c .if1 .left)
-
-word-requires : tie.Need-word-requires
-word-requires c κs = search needs
-
-returns-2 : tie.Need-returns-2
-returns-2 c = search needs
 
 pub print-float-spec : {M : Type 1} → statement M
 print-float-spec =
     tie.close
     (tie.spec
-    slice-aggregate-text
-    text-requires
-    returns
+    (λ c. search needs)
+    (λ c κs. search needs)
+    (λ c. search needs)
     float-to-bits-word
-    word-requires
-    returns-2)
+    (λ c κs. search needs)
+    (λ c. search needs))

@@ -28,15 +28,6 @@ loop-holds : tie.Need-loop-holds Inv-loop μ-loop
 unfolding sum
 loop-holds c = (omega arith, sym (all-none _), refl, refl, refl)
 
-mul-analyte : tie.Need-mul-analyte Inv-loop μ-loop
-mul-analyte c = search needs
-
-array-copy-out-analyte : tie.Need-array-copy-out-analyte Inv-loop μ-loop
-array-copy-out-analyte c = search needs
-
-is-present-requires : tie.Need-is-present-requires Inv-loop μ-loop
-is-present-requires c κs = search needs
-
 of-ion-requires : tie.Need-of-ion-requires Inv-loop μ-loop
 of-ion-requires c κs = (omega arith, c .before .before .before .before .pre .most (c .before .before .before .loop .i) (omega arith))
 
@@ -91,9 +82,9 @@ sums-of-spec =
     Inv-loop
     μ-loop
     loop-holds
-    mul-analyte
-    array-copy-out-analyte
-    is-present-requires
+    (λ c. search needs)
+    (λ c. search needs)
+    (λ c κs. search needs)
     of-ion-requires
     plus-requires
     plus-requires-2

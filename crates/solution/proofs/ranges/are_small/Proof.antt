@@ -25,18 +25,6 @@ abbrev μ-loop : tie.MeasureT-loop
 loop-holds : tie.Need-loop-holds Inv-loop μ-loop
 loop-holds c = (search needs, sym (all-none _))
 
-mul-analyte : tie.Need-mul-analyte Inv-loop μ-loop
-mul-analyte c = search needs
-
-array-copy-out-analyte : tie.Need-array-copy-out-analyte Inv-loop μ-loop
-array-copy-out-analyte c = search needs
-
-add-i : tie.Need-add-i Inv-loop μ-loop
-add-i c = search needs
-
-loop-less : tie.Need-loop-less Inv-loop μ-loop
-loop-less c = search needs
-
 loop-again : tie.Need-loop-again Inv-loop μ-loop
 loop-again c = let at = c .before .before .before .loop in
     let analytes = c .before .before .before .before .args .t1 in
@@ -53,9 +41,9 @@ are-small-spec =
     Inv-loop
     μ-loop
     loop-holds
-    mul-analyte
-    array-copy-out-analyte
-    add-i
-    loop-less
+    (λ c. search needs)
+    (λ c. search needs)
+    (λ c. search needs)
+    (λ c. search needs)
     loop-again
     returns)
