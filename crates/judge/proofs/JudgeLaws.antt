@@ -12,7 +12,7 @@ use Rattle.record.specs.declared.Tested.{Tested}
 use Rattle.record.specs.declared.Tested.the-variants as tested
 use Rattle.record.specs.declared.TestedRecord.{TestedRecord}
 use Rattle.record.specs.Record.{readings, ammonium, sodium, nitrate, chloride, totalNitrogen, organicCarbon, phOf, conductivityOf, massAt}
-use Rattle.record.specs.Tested.{analyteAt, fieldsIn, testedOutcome, termsOf, Holds, OwnTests}
+use Rattle.record.specs.Tested.{analyteAt, fieldsIn, termsOf, Holds, OwnTests}
 use Rattle.record.proofs.AcceptedLaws.{Valid, accepted-given, valid-accepted}
 use Rattle.record.proofs.TestedLaws.{tested-valid, tested-holds, tested-refused}
 use Rattle.solution.specs.Ions.{sum}
@@ -23,10 +23,11 @@ use Rattle.judge.specs.IonBalance.{ionBalanceOf}
 use Rattle.judge.specs.Conductivity.{conductivityVerdict}
 use Rattle.judge.specs.Ratios.{sodiumChlorideOf, nitrogenOf}
 use Rattle.judge.specs.Judgements.{Four, verdictsOf, judgementOf}
-use Rattle.judge.specs.ByValue.{balanceIn, conductivityIn, ratioIn, nitrogenIn, verdictsIn, judgedBy, judgedOf}
+use Rattle.judge.specs.ByValue.{balanceIn, conductivityIn, ratioIn, nitrogenIn, verdictsIn, judgedOf}
 use Rattle.judge.specs.Truth.{Truth}
 use Rattle.judge.proofs.PartLaws.{no-weight}
 use Rattle.judge.proofs.TruthProofs.{truth}
+use Rattle.judge.proofs.AnswerWays.{is-judged, is-refused}
 
 module _ (s : List ℕ) where
   -- ---- each check of fields that are the record's
@@ -90,14 +91,13 @@ module _ (s : List ℕ) where
   refused-is t e = sym (tested-refused t e (given (verdictsOf s)))
 
   -- ---- the judgement by value, by how the tests ended
-  module _ {own : TestedRecord} (t : OwnTests s own) where
-    by-tests : (x : Tested) → own .tested ≡ x → judgedBy (testedOutcome x) (fieldsIn own) ≡ judgementOf s
-    by-tests (tested.Accepted floor) e =
-        let w = tested-valid t e in
-        let h = tested-holds t e in
-        ap (λ (x : Four). given x) (ap (verdictsIn (fieldsIn own)) (fields-give s own floor (w .0) h (w .1)) ∙ verdicts-are own h) ∙ sym (judged (w .0))
-    by-tests (tested.Refused why) e = sym (refused-is t e)
-
-    pub by-value : judgedOf (termsOf own) ≡ judgementOf s
-    unfolding judgedOf
-    by-value = by-tests (own .tested) refl
+  pub by-value : {own : TestedRecord} → OwnTests s own → judgedOf (termsOf own) ≡ judgementOf s
+  by-value {own} t = go (own .tested) refl
+    where
+      go : (x : Tested) → own .tested ≡ x → judgedOf (termsOf own) ≡ judgementOf s
+      go (tested.Accepted floor) e =
+          let w = tested-valid t e in
+          let h = tested-holds t e in
+          let sums = fields-give s own floor (w .0) h (w .1) in
+          sym (is-judged own e refl) ∙ ap (λ (x : Four). given x) (ap (verdictsIn (fieldsIn own)) sums ∙ verdicts-are own h) ∙ sym (judged (w .0))
+      go (tested.Refused why) e = sym (is-refused own e) ∙ sym (refused-is t e)

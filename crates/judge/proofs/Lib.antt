@@ -19,8 +19,8 @@ mod MatchLaws
 mod CheckWays
 mod RatioProofs
 mod TruthProofs
-mod JudgeLaws
 mod AnswerWays
+mod JudgeLaws
 mod MostLaws
 pub mod Laws
 pub mod RepeatLaws

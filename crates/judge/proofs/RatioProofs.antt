@@ -2,7 +2,7 @@
 use mathlib.Core.Path.{_≡_, refl}
 use mathlib.Core.Bool.{Bool, true, false, cond, not, _&&_}
 use mathlib.Core.List.{List}
-use Prim.Native.Nat.{ℕ, _*_, _≤_, _<_}
+use Prim.Native.Nat.{ℕ, _<_}
 use native.Mathlib.Omega.{arith}
 use lib.Dec.{leb, eqb}
 use Rattle.reading.specs.Analytes.{present}
@@ -10,7 +10,7 @@ use Rattle.record.specs.Record.{kindOf, readingAt, massAt, ammonium, sodium, ni
 use Rattle.solution.specs.Solutions.{sodiumCharge, chlorideCharge, mineralNitrogen}
 use Rattle.judge.specs.Classes.{stemflow}
 use Rattle.judge.specs.Verdicts.{applied}
-use Rattle.judge.specs.Ratios.{sodiumChlorideWindow, nitrogenWindow, sodiumChlorideOf, nitrogenOf}
+use Rattle.judge.specs.Ratios.{SodiumChloride, Nitrogen, sodiumChlorideWindow, nitrogenWindow, sodiumChlorideOf, nitrogenOf}
 use Rattle.judge.specs.Truth.{PlainTruth, ratioApplies, ratioKnown, nitrogenApplies, nitrogenKnown}
 use Rattle.judge.proofs.PointLaws.{Settled, settled-1, settled-2, settled-few, settled-as, settled}
 use Rattle.judge.proofs.Applying.{applied-0, applied-4, applied-is}
@@ -40,13 +40,12 @@ nitrogen-applied true false m v = refl
 nitrogen-applied false p m v = refl
 
 module _ (s : List ℕ) where
-  pub ratio-truth :
-      PlainTruth (ratioApplies s) (ratioKnown s) ((chlorideCharge s ≤ 2 * sodiumCharge s) × (2 * sodiumCharge s ≤ 3 * chlorideCharge s)) (sodiumChlorideOf s)
+  pub ratio-truth : PlainTruth (ratioApplies s) (ratioKnown s) (SodiumChloride (sodiumCharge s) (chlorideCharge s)) (sodiumChlorideOf s)
   ratio-truth =
       rw (ratio-applied (leb (kindOf s) stemflow) (present (readingAt s chloride)) (eqb (massAt s chloride) 0) (present (readingAt s sodium)))
       (plain-truth (ratioApplies s) (ratioKnown s) _ (settled-as (λ e. omega arith, λ e. omega arith) (settled sodiumChlorideWindow (sodiumCharge s) (chlorideCharge s))))
 
-  pub nitrogen-truth : PlainTruth (nitrogenApplies s) (nitrogenKnown s) (mineralNitrogen s ≤ massAt s totalNitrogen) (nitrogenOf s)
+  pub nitrogen-truth : PlainTruth (nitrogenApplies s) (nitrogenKnown s) (Nitrogen (mineralNitrogen s) (massAt s totalNitrogen)) (nitrogenOf s)
   nitrogen-truth =
       rw (nitrogen-applied (present (readingAt s totalNitrogen)) (present (readingAt s nitrate)) (present (readingAt s ammonium)))
       (plain-truth (nitrogenApplies s) (nitrogenKnown s) _ (settled-as (λ e. omega arith, λ e. omega arith) (settled nitrogenWindow (mineralNitrogen s) (massAt s totalNitrogen))))

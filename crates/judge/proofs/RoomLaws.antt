@@ -1,12 +1,16 @@
 -- The products of the ratios fit 64 bits where those of the greatest sums do; those of all fields do.
+use mathlib.Core.Path.{_≡_}
 use Prim.Native.Nat.{ℕ, _+_, _*_, _^_, _≤_, _<_}
 use native.Mathlib.Nat.{le-refl, le-trans, lt-of-le-of-lt, mul-comm, mul-le-mul}
 use native.Mathlib.Omega.{arith}
 use lib.Dec.{lit<}
 use Rattle.solution.specs.Ions.{cationFactor, anionFactor, conductance, sum}
-use Rattle.solution.specs.Solutions.{Sums}
+use Rattle.solution.specs.declared.Solution.{Solution}
+use Rattle.solution.specs.Solutions.{Sums, sumsIn}
 use Rattle.solution.specs.Steps.{mostSums, Bounded}
+use Rattle.judge.specs.declared.ratio.Fraction.{Fraction}
 use Rattle.judge.specs.declared.window.Window.{Window}
+use Rattle.judge.specs.Corners.{fraction}
 use Rattle.judge.specs.Classes.{percent, percentOfMean}
 use Rattle.judge.specs.Steps.{Room}
 use Rattle.judge.specs.IonBalance.{balanceLimit, balanceWindow}
@@ -49,7 +53,7 @@ module _ (n X Y : ℕ) (firsts : n * X < 2 ^ 64) (seconds : n * Y < 2 ^ 64) wher
       }
 
 module _ (measured : ℕ) (x : Sums) (b : Bounded x) where
-  pub balance-room : Room (balanceWindow (balanceLimit measured)) (x .leastCations) (x .mostCations) (x .anions) (x .anions)
+  balance-room : Room (balanceWindow (balanceLimit measured)) (x .leastCations) (x .mostCations) (x .anions) (x .anions)
   unfolding sum cationFactor anionFactor balanceLimit
   balance-room =
       let small = balance-most measured in
@@ -57,13 +61,23 @@ module _ (measured : ℕ) (x : Sums) (b : Bounded x) where
       (record { lowNumerator = omega arith; lowDenominator = omega arith; highNumerator = omega arith; highDenominator = omega arith })
       (b .cations) (b .mostCations) (le-refl _) (b .anions)
 
-  pub conductivity-room : Room (conductivityWindow (conductivityLimit measured)) (x .leastCalculated) (x .mostCalculated) (x .measured) (x .measured)
+  conductivity-room : Room (conductivityWindow (conductivityLimit measured)) (x .leastCalculated) (x .mostCalculated) (x .measured) (x .measured)
   unfolding sum cationFactor anionFactor conductance conductivityLimit
   conductivity-room =
       let small = conductivity-most measured in
       room (percent + conductivityLimit 0) (mostSums .mostCalculated) (mostSums .measured) (lit< tt) (lit< tt)
       (record { lowNumerator = omega arith; lowDenominator = omega arith; highNumerator = omega arith; highDenominator = omega arith })
       (b .calculated) (b .mostCalculated) (le-refl _) (b .measured)
+
+-- the same of a window and two ratios, as the code makes them
+module _ (measured : ℕ) (x : Solution) (b : Bounded (sumsIn x)) {w : Window} {least most : Fraction} where
+  pub balance-handed : w ≡ balanceWindow (balanceLimit measured) → least ≡ fraction (x .cations .least .0) (x .anions .0)
+      → most ≡ fraction (x .cations .most .0) (x .anions .0) → Room w (least .numerator) (most .numerator) (most .denominator) (least .denominator)
+  balance-handed e f g = rw (e, f, g) (balance-room measured (sumsIn x) b)
+
+  pub conductivity-handed : w ≡ conductivityWindow (conductivityLimit measured) → least ≡ fraction (x .calculated .least .0) (x .measured .0)
+      → most ≡ fraction (x .calculated .most .0) (x .measured .0) → Room w (least .numerator) (most .numerator) (most .denominator) (least .denominator)
+  conductivity-handed e f g = rw (e, f, g) (conductivity-room measured (sumsIn x) b)
 
 -- the windows of the other two are constant: their sums are bounded together
 module _ {x y : ℕ} where

@@ -1,6 +1,7 @@
 -- Document 01, 'The four checks': what is answered to a record that is held by value, whatever its fields are: a promise of
 -- `judge_tested`, which is handed no words. Where the fields are those of a record, this is the record's own judgement
--- (`Judgements.judgementOf`), as a law says. A check takes its sums from `solution`, which gives none to fields that no record has.
+-- (`Judgements.judgementOf`), as a law says. A check takes its sums from `solution`, which gives none to fields that no record has: then
+-- no ion is known, and every sum is 0.
 use mathlib.Core.Bool.{true}
 use Prim.Native.Nat.{ℕ}
 use Rattle.refusal.specs.Outcome.{Outcome}

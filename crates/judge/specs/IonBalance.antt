@@ -18,10 +18,11 @@ use Rattle.judge.specs.AtHydrogen.{Bounds}
 use Rattle.judge.specs.Corners.{fraction, Check, passesOf}
 use Rattle.judge.specs.Ranges.{rangesOf}
 
--- 'kinds 1 and 2, and kind 5 with DOC present and below 5,000 µg/L'
+-- 'below 5,000 µg/L': 5 mg/L as an amount
 abbrev pub carbonLine : ℕ
 carbonLine = 5 * perMilligram
 
+-- 'kinds 1 and 2, and kind 5 with DOC present and below 5,000 µg/L'
 unfoldable pub balanceApplies : ℕ → Bool → ℕ → Bool
 balanceApplies kind carbonPresent carbon = (eqb kind wetOnly || eqb kind bulk) || (eqb kind runoff && (carbonPresent && ltb carbon carbonLine))
 

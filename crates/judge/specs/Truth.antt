@@ -3,7 +3,7 @@ use mathlib.Core.Path.{_≡_}
 use mathlib.Core.Bool.{Bool, true, false, not, _&&_}
 use mathlib.Core.List.{List}
 use mathlib.Core.Logic.{_↔_}
-use Prim.Native.Nat.{ℕ, _*_, _≤_, _<_}
+use Prim.Native.Nat.{ℕ, _*_, _<_}
 use lib.Dec.{leb, eqb}
 use Rattle.hydrogen.specs.Floors.{WholePh}
 use Rattle.reading.specs.Analytes.{present}
@@ -16,6 +16,7 @@ use Rattle.judge.specs.AtHydrogen.{Bounds, AtH, AtFraction}
 use Rattle.judge.specs.Ranges.{rangesOf}
 use Rattle.judge.specs.IonBalance.{balanceAppliesTo, balanceLimit, Balanced, balanceBoundsOf}
 use Rattle.judge.specs.Conductivity.{conductivityLimit, Conducting, conductivityBoundsOf}
+use Rattle.judge.specs.Ratios.{SodiumChloride, Nitrogen}
 use Rattle.judge.specs.Judgements.{Four}
 
 -- the record's amounts with hydrogen n / d
@@ -72,6 +73,6 @@ pub record Truth (s : List ℕ) (v : Four) : Type 0 where
   pub conductivity :
       HydrogenTruth s true (Conducting (conductivityLimit (conductivityOf s)) (alkalinityOf s) (measuredOf (conductivityOf s))) (conductivityBoundsOf s) (v .conductivity)
   -- the ratio of charges is from 0.5 to 1.5
-  pub ratio : PlainTruth (ratioApplies s) (ratioKnown s) ((chlorideCharge s ≤ 2 * sodiumCharge s) × (2 * sodiumCharge s ≤ 3 * chlorideCharge s)) (v .ratio)
+  pub ratio : PlainTruth (ratioApplies s) (ratioKnown s) (SodiumChloride (sodiumCharge s) (chlorideCharge s)) (v .ratio)
   -- TN is at least NO3-N plus NH4-N
-  pub nitrogen : PlainTruth (nitrogenApplies s) (nitrogenKnown s) (mineralNitrogen s ≤ massAt s totalNitrogen) (v .nitrogen)
+  pub nitrogen : PlainTruth (nitrogenApplies s) (nitrogenKnown s) (Nitrogen (mineralNitrogen s) (massAt s totalNitrogen)) (v .nitrogen)

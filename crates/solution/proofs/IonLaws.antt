@@ -10,6 +10,7 @@ use Rattle.record.specs.Record.{ions, readings, totalNitrogen, organicCarbon, m
 use Rattle.solution.specs.declared.Charge.{Charge}
 use Rattle.solution.specs.declared.Conductivity.{Conductivity}
 use Rattle.solution.specs.declared.ions.Row.{Row}
+use Rattle.solution.specs.declared.ions.Ion.{Ion}
 use Rattle.solution.specs.Ions.{chargeUnit, cationFactor, anionFactor, conductance, cationCharge, anionCharge, conducted, sum}
 use Rattle.solution.specs.ByValue.{amountAt}
 use Rattle.solution.specs.Steps.{Small, RowOf, Adds, mostSums, Fits}
@@ -98,3 +99,14 @@ module _ (i m : ℕ) (l : i < ions) (small : m ≤ mostMass) {row : Row} (is : R
             anion = charged (anionFactor i) (anion .0) (row .anion) m (is .anion) a;
             conductivity = e ∙ conducting;
           }
+
+-- ---- the sums so far with those of the next ion, as the loop adds them
+module _ (analytes : List Analyte) (small : Small analytes) (i : ℕ) (l : i < ions) {ion : Ion} (is : Adds i (amountAt analytes i) ion) where
+  pub cations-next : {x : ℕ} → x ≡ sum (λ k. cationCharge k * amountAt analytes k) i → x + ion .cation .0 < 2 ^ 64
+  cations-next e = omega (arith, most-fits, next-most cationCharge analytes small i (omega arith))
+
+  pub anions-next : {x : ℕ} → x ≡ sum (λ k. anionCharge k * amountAt analytes k) i → x + ion .anion .0 < 2 ^ 64
+  anions-next e = omega (arith, most-fits, next-most anionCharge analytes small i (omega arith))
+
+  pub conductivity-next : {x : ℕ} → x ≡ sum (λ k. conducted k * amountAt analytes k) i → x + ion .conductivity .0 < 2 ^ 64
+  conductivity-next e = omega (arith, most-fits, next-most conducted analytes small i (omega arith))

@@ -1,9 +1,8 @@
 -- The three ways of the check, and room for its ratios.
 use Rattle.refusal.proofs.Testing.{failed, passed}
 use borrow.Author.Tests.{not-true, not-false}
-use Rattle.solution.specs.Solutions.{sumsIn}
 use Rattle.judge.proofs.CheckWays.{balance-not, balance-missing, balance-decided}
-use Rattle.judge.proofs.RoomLaws.{balance-room}
+use Rattle.judge.proofs.RoomLaws.{balance-handed}
 use borrow.Author.Needs.{needs}
 use Rattle.judge.proofs.balance_check.of_record.Statement.{statement}
 use Rattle.judge.proofs.balance_check.of_record.Tie as tie
@@ -16,8 +15,7 @@ returns-2 c = let kind = c .before .before in
     balance-missing _ _ _ _ (passed (kind .before .applies .ensures) (kind .if1 .left)) (not-true (kind .before .before .before .args .solution .known) (c .if2 .taken))
 
 decide-requires : tie.Need-decide-requires
-decide-requires c κs = let start = c .before .before .before .before .before .before .before .before in
-    rw (c .window-at .ensures, c .before .of-charges2 .ensures, c .before .before .of-charges .ensures) (balance-room (start .args .measured) (sumsIn (start .args .solution)) (start .pre))
+decide-requires c κs = search balance-handed
 
 returns-3 : tie.Need-returns-3
 returns-3 c = let made = c .before .before in

@@ -1,8 +1,7 @@
 -- The two ways of the check, which applies to every kind, and room for its ratios.
 use borrow.Author.Tests.{not-true, not-false}
-use Rattle.solution.specs.Solutions.{sumsIn}
 use Rattle.judge.proofs.CheckWays.{conductivity-missing, conductivity-decided}
-use Rattle.judge.proofs.RoomLaws.{conductivity-room}
+use Rattle.judge.proofs.RoomLaws.{conductivity-handed}
 use borrow.Author.Needs.{needs}
 use Rattle.judge.proofs.conductivity_check.of_record.Statement.{statement}
 use Rattle.judge.proofs.conductivity_check.of_record.Tie as tie
@@ -11,8 +10,7 @@ returns : tie.Need-returns
 returns c = conductivity-missing _ _ (not-true (c .before .before .args .solution .known) (c .if1 .taken))
 
 decide-requires : tie.Need-decide-requires
-decide-requires c κs = let start = c .before .before .before .before .before in
-    rw (c .window-at .ensures, c .before .of-conductivities2 .ensures, c .before .before .of-conductivities .ensures) (conductivity-room (start .args .measured) (sumsIn (start .args .solution)) (start .pre))
+decide-requires c κs = search conductivity-handed
 
 returns-2 : tie.Need-returns-2
 returns-2 c = let made = c .before .before in

@@ -8,7 +8,7 @@ use Rattle.record.proofs.AllBelow.{all-none, all-next}
 use Rattle.solution.specs.Ions.{cationCharge, anionCharge, conducted, sum}
 use Rattle.solution.specs.ByValue.{thereAt, amountAt}
 use Rattle.solution.proofs.SumLaws.{sum-next}
-use Rattle.solution.proofs.IonLaws.{cations-only, anions-only, conducted-only, most-fits, next-most}
+use Rattle.solution.proofs.IonLaws.{cations-only, anions-only, conducted-only, cations-next, anions-next, conductivity-next}
 use borrow.Author.Needs.{needs}
 use Rattle.solution.proofs.ions.sums_of.Statement.{statement}
 use Rattle.solution.proofs.ions.sums_of.Tie as tie
@@ -32,16 +32,13 @@ of-ion-requires : tie.Need-of-ion-requires Inv-loop μ-loop
 of-ion-requires c κs = (omega arith, c .before .before .before .before .pre .most (c .before .before .before .loop .i) (omega arith))
 
 plus-requires : tie.Need-plus-requires Inv-loop μ-loop
-plus-requires c κs = let at = c .before .before .before .before in
-    omega (arith, most-fits, next-most cationCharge (at .before .args .t1) (at .before .pre) (at .loop .i) (omega arith))
+plus-requires c κs = search cations-next
 
 plus-requires-2 : tie.Need-plus-requires-2 Inv-loop μ-loop
-plus-requires-2 c κs = let at = c .before .before .before .before .before in
-    omega (arith, most-fits, next-most anionCharge (at .before .args .t1) (at .before .pre) (at .loop .i) (omega arith))
+plus-requires-2 c κs = search anions-next
 
 plus-requires-3 : tie.Need-plus-requires-3 Inv-loop μ-loop
-plus-requires-3 c κs = let at = c .before .before .before .before .before .before in
-    omega (arith, most-fits, next-most conducted (at .before .args .t1) (at .before .pre) (at .loop .i) (omega arith))
+plus-requires-3 c κs = search conductivity-next
 
 add-i : tie.Need-add-i Inv-loop μ-loop
 add-i c = omega arith
