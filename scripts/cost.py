@@ -1,5 +1,5 @@
 #!/usr/bin/env python3
-"""What a change costs: a table of every crate, for docs/ARCHITECTURE.md and for notes that compare before and after.
+"""What a change costs: a table of every crate, for the notes of docs/changes/, which compare before and after.
 
     .ci/run | tee LOG; scripts/cost.py LOG [--dev]
 
