@@ -12,7 +12,8 @@ ghost use Rattle.reading.specs.Readings.{analysedOf, readingOf, wordsOf,
 ghost use Rattle.reading.specs.Amounts.{amountOf, AmountLaws};
 ghost use Rattle.reading.specs.Analytes.{present, analyteFrom};
 
-// The scale of an amount, µg in a mg, for a crate that says how great amounts are.
+// The greatest amount, and the scale of amounts, for a crate that says how great sums or limits are.
+pub use rounding::MOST_MASS;
 pub use rounding::PER_MILLIGRAM;
 
 // What the analyser holds for a reading, in mg/L: the form that document 01 names, a struct with two f32 fields.

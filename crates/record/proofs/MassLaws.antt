@@ -5,10 +5,9 @@ use lib.Dec.{lit≤}
 use Rattle.refusal.specs.Outcome.{Outcome}
 use Rattle.refusal.specs.Outcome.Outcome.{given, refused}
 use Rattle.reading.specs.declared.Reading.{Reading}
-use Rattle.reading.specs.Amounts.{Amount, amountOf}
+use Rattle.reading.specs.Amounts.{mostMass, Amount, amountOf}
 use Rattle.reading.specs.Analytes.{massIn, massOf}
 use Rattle.reading.proofs.Laws.{amount-laws}
-use Rattle.record.specs.Record.{mostMass}
 
 pub mass-most : (r : Reading) → massOf r ≤ mostMass
 unfolding massOf

@@ -6,7 +6,8 @@ use native.Mathlib.Nat.{le-refl, mul-le-mul-left, mul-assoc, add-mul}
 use native.Mathlib.Omega.{arith}
 use lib.Dec.{lit<}
 use Rattle.reading.specs.declared.Analyte.{Analyte}
-use Rattle.record.specs.Record.{ions, readings, totalNitrogen, organicCarbon, mostMass}
+use Rattle.reading.specs.Amounts.{mostMass}
+use Rattle.record.specs.Record.{ions, readings, totalNitrogen, organicCarbon}
 use Rattle.solution.specs.declared.Charge.{Charge}
 use Rattle.solution.specs.declared.Conductivity.{Conductivity}
 use Rattle.solution.specs.declared.ions.Row.{Row}

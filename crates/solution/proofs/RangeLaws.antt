@@ -8,7 +8,8 @@ use borrow.Author.Tests.{le-leb, leb-true}
 use Rattle.refusal.proofs.Testing.{both}
 use Rattle.hydrogen.specs.Floors.{mostFloor}
 use Rattle.reading.specs.declared.Analyte.{Analyte}
-use Rattle.record.specs.Record.{readings, mostMass, mostConductivity, mostAlkalinity}
+use Rattle.reading.specs.Amounts.{mostMass}
+use Rattle.record.specs.Record.{readings, mostConductivity, mostAlkalinity}
 use Rattle.record.specs.Tested.{Fields}
 use Rattle.record.proofs.AllBelow.{all-each, each-all}
 use Rattle.solution.specs.ByValue.{amountAt, areSmall, inRanges, sumsBy, sumsHeld, noSums}

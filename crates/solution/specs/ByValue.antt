@@ -7,7 +7,8 @@ use lib.Dec.{leb}
 use Rattle.hydrogen.specs.Floors.{isWhole, mostFloor}
 use Rattle.reading.specs.declared.Analyte.{Analyte}
 use Rattle.reading.specs.Analytes.{present}
-use Rattle.record.specs.Record.{readings, mostMass, mostConductivity, mostAlkalinity, allBelow}
+use Rattle.reading.specs.Amounts.{mostMass}
+use Rattle.record.specs.Record.{readings, mostConductivity, mostAlkalinity, allBelow}
 use Rattle.record.specs.Tested.{Fields, analyteAt}
 use Rattle.solution.specs.Solutions.{Sums, sumsWith}
 

@@ -6,7 +6,8 @@ use mathlib.Core.List.{List}
 use Prim.Native.Nat.{ℕ, _+_, _*_, _^_, _≤_, _<_}
 use Rattle.hydrogen.specs.Floors.{isWhole, mostFloor}
 use Rattle.reading.specs.declared.Analyte.{Analyte}
-use Rattle.record.specs.Record.{ions as eight, readings, ammonium, sodium, nitrate, chloride, totalNitrogen, mostMass, mostConductivity, mostAlkalinity, allBelow}
+use Rattle.reading.specs.Amounts.{mostMass}
+use Rattle.record.specs.Record.{ions as eight, readings, ammonium, sodium, nitrate, chloride, totalNitrogen, mostConductivity, mostAlkalinity, allBelow}
 use Rattle.record.specs.Tested.{Fields}
 use Rattle.solution.specs.declared.Charge.{Charge}
 use Rattle.solution.specs.declared.Charges.{Charges}

@@ -8,7 +8,8 @@ use reading::Mass;
 use record::IONS;
 ghost use mathlib.Core.Path.{_≡_};
 ghost use Prim.Native.Nat.{_+_, _*_, _^_, _≤_, _<_};
-ghost use Rattle.record.specs.Record.{ions, mostMass};
+ghost use Rattle.reading.specs.Amounts.{mostMass};
+ghost use Rattle.record.specs.Record.{ions};
 ghost use Rattle.solution.specs.Ions.{chargeUnit};
 ghost use Rattle.solution.specs.Steps.{Small, RowOf, Adds, IonSums, RatioOf};
 

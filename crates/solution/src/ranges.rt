@@ -1,9 +1,9 @@
 // Whether fields are within the ranges of a record.
 use hydrogen::MOST_FLOOR;
 use reading::Analyte;
+use reading::MOST_MASS;
 use record::MOST_ALKALINITY;
 use record::MOST_CONDUCTIVITY;
-use record::MOST_MASS;
 use record::READINGS;
 use record::TestedRecord;
 ghost use mathlib.Core.Path.{_≡_};

@@ -6,7 +6,8 @@ use Prim.Native.Nat.{ℕ, _-_, _≤_}
 use native.Mathlib.Omega.{arith}
 use lib.Dec.{leb}
 use Rattle.reading.specs.declared.Analyte.{Analyte}
-use Rattle.record.specs.Record.{readings, mostMass, allBelow}
+use Rattle.reading.specs.Amounts.{mostMass}
+use Rattle.record.specs.Record.{readings, allBelow}
 use Rattle.record.proofs.AllBelow.{all-none, all-next}
 use Rattle.solution.specs.ByValue.{amountAt, areSmall}
 use borrow.Author.Needs.{needs}
