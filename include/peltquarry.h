@@ -2,7 +2,9 @@
  * Peltquarry, the water analysis judge, for programs in C.
  *
  * A record, a docket, a batch and an answer are words of 32 bits, lent as a pointer and a number of words. Where each word stands
- * and how many there are is named below; what they mean stands in document 01, 'A record', 'A reading' and 'A batch'.
+ * and how many there are is named below; what they mean stands in document 01, 'A record', 'A reading' and 'A batch',
+ * and in document 02 (i): readings are floats in mg/L as before; the values of a chart are in tenths of a µg/L, like the amounts
+ * that readings are rounded to.
  *
  * Every call returns 0 where it did what was asked, else the number of a refusal:
  *
@@ -91,11 +93,11 @@ extern "C" {
 /* How many verdicts there are: ion balance, conductivity, sodium/chloride ratio, nitrogen. */
 #define PELTQUARRY_VERDICT_WORDS 4
 
-/* A chart: how many setup values and later values it may have, and the greatest value, in µg/L. */
+/* A chart: how many setup values and later values it may have, and the greatest value, in tenths of a µg/L. */
 #define PELTQUARRY_LEAST_SETUP 10
 #define PELTQUARRY_MOST_SETUP 64
 #define PELTQUARRY_MOST_LATER 64
-#define PELTQUARRY_MOST_VALUE 200000
+#define PELTQUARRY_MOST_VALUE 2000000
 
 /*
  * The words of a batch: the number of charts and the charts, then the number of samples and their records. A chart has its

@@ -64,11 +64,11 @@ pub fn a_bottle(random: &mut Random) -> [[u32; RECORD_WORDS]; 3] {
 
 /// Setup values about 1,000 µg/L and later values that sometimes leave them.
 pub fn a_chart(random: &mut Random, setup: usize, later: usize) -> (Vec<u32>, Vec<u32>) {
-    let before = (0..setup).map(|_| 950 + random.below(100)).collect();
+    let before = (0..setup).map(|_| 9_500 + random.below(1_000)).collect();
     let after = (0..later)
         .map(|_| match random.below(20) {
-            0 => 800 + random.below(400),
-            _ => 950 + random.below(100),
+            0 => 8_000 + random.below(4_000),
+            _ => 9_500 + random.below(1_000),
         })
         .collect();
     (before, after)

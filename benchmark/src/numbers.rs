@@ -1,4 +1,4 @@
-//! The numbers of document 01 that both sides of a row go by: where words stand,
+//! The numbers of documents 01 and 02 (i) that both sides of a row go by: where words stand,
 //! how many there are and how far values reach.
 
 // A record.
@@ -36,10 +36,10 @@ pub const IONS: usize = 8;
 /// The bits of 2^−10 and of 200 mg/L.
 pub const LEAST_LIMIT: u32 = 0x3A80_0000;
 pub const MOST_BITS: u32 = 0x4348_0000;
-/// Amounts in a mg/L.
-pub const PER_MILLIGRAM: u32 = 1_000;
+/// Amounts are in tenths of a µg/L: so many of them in a mg/L.
+pub const PER_MILLIGRAM: u32 = 10_000;
 /// u of charge in an amount times its factor, and in a tenth of a µeq/L.
-pub const AMOUNT_CHARGE: u64 = 10_000;
+pub const AMOUNT_CHARGE: u64 = 1_000;
 pub const ALKALINITY_CHARGE: u64 = 100_000_000;
 /// Runoff with less organic carbon has an ion balance.
 pub const CARBON_LINE: u64 = 5 * PER_MILLIGRAM as u64;
@@ -54,7 +54,7 @@ pub const CHART_HEAD: usize = 3;
 pub const LEAST_SETUP: usize = 10;
 pub const MOST_SETUP: usize = 64;
 pub const MOST_LATER: usize = 64;
-pub const MOST_VALUE: u32 = 200_000;
+pub const MOST_VALUE: u32 = 2_000_000;
 
 // A batch and its answer.
 pub const MOST_CHARTS: u32 = 10;

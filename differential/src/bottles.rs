@@ -3,8 +3,8 @@
 use crate::floats::{any_reading, scattered_reading};
 use crate::numbers::{
     AMMONIUM, CONDUCTIVITY_TENTH, IONS, LEAST_PH, MOST_ALKALINITY, MOST_AMOUNT, MOST_CONDUCTIVITY,
-    MOST_NUMBER, MOST_PH, NITRATE, ORGANIC_CARBON, READINGS, SODIUM, SOIL_WATER, TOTAL_NITROGEN,
-    WET_ONLY,
+    MOST_NUMBER, MOST_PH, MOST_TRACE, NITRATE, ORGANIC_CARBON, READINGS, SODIUM, SOIL_WATER,
+    TOTAL_NITROGEN, WET_ONLY,
 };
 use crate::random::Draw;
 use reference::cases::bottle::Bottle;
@@ -57,6 +57,16 @@ pub fn everyday(generator: &mut Generator) -> Bottle {
     some_missing(generator, bottle)
 }
 
+/// The amount of a trace: a few tenths of a µg/L as often as hundreds, or whole
+/// µg/L, which another analysis can be exactly a tenth off.
+pub fn trace(generator: &mut Generator) -> u32 {
+    if generator.once_in(3) {
+        10 * generator.between(1, MOST_TRACE / 10)
+    } else {
+        generator.of_any_size(MOST_TRACE)
+    }
+}
+
 /// In one bottle of four readings are missing.
 fn some_missing(generator: &mut Generator, mut bottle: Bottle) -> Bottle {
     if generator.once_in(4) {
@@ -76,16 +86,22 @@ struct Draft {
 
 impl Draft {
     fn drawn(generator: &mut Generator) -> Draft {
-        // From thin rain to what no field has.
-        let most = generator.pick(&[50, 500, 2_000, 6_000, 40_000]);
+        // From thin rain, 5 µg/L, to what no field has, 40 mg/L; in any of it
+        // one ion in eight is a trace.
+        let most = generator.pick(&[50, 500, 5_000, 20_000, 60_000, 400_000]);
         let mut amounts = [0; READINGS];
         for amount in &mut amounts[..IONS] {
-            *amount = generator.below(most);
+            *amount = match generator.below(8) {
+                0 => trace(generator),
+                _ => generator.below(most),
+            };
         }
+        // From 10 tenths of a µg/L short to 29 over: equality and one short are
+        // common, and so is what whole µg/L would take for either.
         let nitrogen = amounts[AMMONIUM] + amounts[NITRATE];
         let total = (nitrogen + generator.below(40)).saturating_sub(10);
         amounts[TOTAL_NITROGEN] = total.min(MOST_AMOUNT);
-        amounts[ORGANIC_CARBON] = generator.below(9_000);
+        amounts[ORGANIC_CARBON] = generator.below(90_000);
         let ph = match generator.below(3) {
             0 => 100 * generator.between(LEAST_PH / 100, MOST_PH / 100),
             1 => generator.between(LEAST_PH, MOST_PH),
@@ -115,7 +131,7 @@ impl Draft {
             let tenths = (surplus / alkalinity_charge(1)).min(120_000) as u32;
             self.alkalinity = generator.near(tenths, percent);
         } else {
-            let sodium = (-surplus / charge(SODIUM, 1)).min(90_000) as u32;
+            let sodium = (-surplus / charge(SODIUM, 1)).min(900_000) as u32;
             self.amounts[SODIUM] += generator.near(sodium, percent);
         }
     }
@@ -135,7 +151,8 @@ impl Draft {
 mod tests {
     use super::*;
     use crate::answers::judge;
-    use crate::numbers::CHECKS;
+    use crate::numbers::{CHECKS, MAGNESIUM, POTASSIUM};
+    use reference::record::Record;
 
     #[test]
     fn every_bottle_is_a_record() {
@@ -163,5 +180,35 @@ mod tests {
                 .iter()
                 .all(|&verdict: &usize| times[check][verdict] > 50));
         }
+    }
+
+    /// Traces of magnesium and of potassium beside ions that are none; total
+    /// nitrogen equal to what it is compared with, and a tenth of a µg/L short.
+    #[test]
+    fn traces_and_the_limit_of_nitrogen_are_common() {
+        let mut generator = Generator::new(3);
+        let mut traces = [0; 2];
+        let mut nitrogen = [0; 2];
+        for _ in 0..5_000 {
+            let bottle = everyday(&mut generator);
+            let record = Record::read(bottle.words()).expect("a record");
+            let beside_more =
+                (0..IONS).any(|ion| record.amount(ion).is_some_and(|a| a > 10 * MOST_TRACE));
+            for (times, ion) in traces.iter_mut().zip([MAGNESIUM, POTASSIUM]) {
+                let is_trace = record
+                    .amount(ion)
+                    .is_some_and(|amount| (1..=MOST_TRACE).contains(&amount));
+                *times += u32::from(beside_more && is_trace);
+            }
+            let [total, nitrate, ammonium] =
+                [TOTAL_NITROGEN, NITRATE, AMMONIUM].map(|place| record.amount(place));
+            if let (Some(total), Some(nitrate), Some(ammonium)) = (total, nitrate, ammonium) {
+                let sum = nitrate + ammonium;
+                nitrogen[0] += u32::from(total == sum);
+                nitrogen[1] += u32::from(total + 1 == sum);
+            }
+        }
+        assert!(traces.iter().all(|&times| times > 200), "{traces:?}");
+        assert!(nitrogen.iter().all(|&times| times > 50), "{nitrogen:?}");
     }
 }

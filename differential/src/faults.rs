@@ -1,27 +1,33 @@
 //! Faults put into the stand-in: each must be found by the part that it names.
 
+mod amounts;
+
 use crate::answers;
 use crate::library::Library;
 use crate::numbers::{
-    BALANCE_CHECK, BITS, BULK, CARBON_LINE, CHART_COUNT, CHART_ELEMENT, CHECKS, CONDUCTIVITY_CHECK,
-    COUNT_WORDS, DOCKET_COUNT, DOCKET_RECORD, DOCKET_STATE, DOCKET_WORDS, FIRST_CHART,
-    FIRST_READING, IONS, MOST_BYTES, MOST_ELEMENT, ORGANIC_CARBON, READINGS_END, READING_WORDS,
-    ROW_FLAG, ROW_WORDS, RUNOFF, WORD_BYTES,
+    BALANCE_CHECK, BULK, CARBON_LINE, CHART_COUNT, CHART_ELEMENT, CHECKS, CONDUCTIVITY_CHECK,
+    COUNT_WORDS, DOCKET_COUNT, DOCKET_RECORD, DOCKET_STATE, DOCKET_WORDS, FIRST_CHART, IONS,
+    MOST_AMOUNT, MOST_BYTES, MOST_ELEMENT, MOST_VALUE, ORGANIC_CARBON, ROW_FLAG, ROW_WORDS, RUNOFF,
+    WORD_BYTES,
 };
 use crate::stand_in::{write, StandIn};
-use reference::cases::floats::ties;
+use amounts::{in_micrograms, misread, with_amounts};
 use reference::charts::SEVEN_ON_ONE_SIDE;
-use reference::checks::{ion_balance, Conductivity, Inequality, IonBalance};
+use reference::checks::{conductivity, ion_balance, Conductivity, Inequality, IonBalance};
+use reference::docket::agree;
+use reference::readings::Reading;
 use reference::record::Record;
-use reference::refusals::{BATCH_LENGTH, DOCKET};
+use reference::refusals::{BATCH_LENGTH, CHART, DOCKET};
 use std::cmp::Ordering;
-use std::collections::HashSet;
 use std::ops::Range;
-use std::sync::OnceLock;
 
 #[derive(Clone, Copy, Debug, PartialEq, Eq)]
 pub enum Fault {
     TieGoesDown,
+    WholeMicrograms,
+    HalfOfTheRounded,
+    ChargeUnitKept,
+    CarbonLineKept,
     LimitExcluded,
     FloorForHydrogen,
     CarbonLineIncluded,
@@ -31,8 +37,11 @@ pub enum Fault {
     EqualIsBelow,
     MinusZeroTaken,
     ExactTenthDisagrees,
+    AgreesInMicrograms,
     HoldsTheFirst,
     ForeignStateIsOpen,
+    GreatValuesRefused,
+    ValueBeyondTaken,
     SixOnOneSide,
     ExactlyThreeIsBeyond,
     LeftoversTaken,
@@ -45,8 +54,12 @@ pub enum Fault {
 use Fault::*;
 
 /// Every fault with the part that must find it.
-pub const FAULTS: [(Fault, &str); 19] = [
+pub const FAULTS: [(Fault, &str); 26] = [
     (TieGoesDown, "records"),
+    (WholeMicrograms, "records"),
+    (HalfOfTheRounded, "records"),
+    (ChargeUnitKept, "records"),
+    (CarbonLineKept, "records"),
     (LimitExcluded, "records"),
     (FloorForHydrogen, "records"),
     (CarbonLineIncluded, "records"),
@@ -56,8 +69,11 @@ pub const FAULTS: [(Fault, &str); 19] = [
     (EqualIsBelow, "readings"),
     (MinusZeroTaken, "readings"),
     (ExactTenthDisagrees, "offers"),
+    (AgreesInMicrograms, "offers"),
     (HoldsTheFirst, "offers"),
     (ForeignStateIsOpen, "offers"),
+    (GreatValuesRefused, "charts"),
+    (ValueBeyondTaken, "charts"),
     (SixOnOneSide, "charts"),
     (ExactlyThreeIsBeyond, "charts"),
     (LeftoversTaken, "batches"),
@@ -67,6 +83,11 @@ pub const FAULTS: [(Fault, &str); 19] = [
     (LengthToldWhenRefused, "batches"),
 ];
 
+/// Document 01's line of carbon and greatest chart value, both in whole µg/L:
+/// what they are where amounts became tenths and they didn't.
+const KEPT_CARBON_LINE: u32 = 5_000;
+const KEPT_MOST_VALUE: u32 = 200_000;
+
 /// The words of a docket that hold its record.
 const HELD: Range<usize> = DOCKET_RECORD..DOCKET_WORDS;
 
@@ -75,10 +96,7 @@ pub struct Faulty(pub Fault);
 
 impl Library for Faulty {
     fn judge(&self, words: &[u32], verdicts: &mut [u32]) -> u32 {
-        if self.0 == TieGoesDown {
-            return StandIn.judge(&ties_lowered(words), verdicts);
-        }
-        let answer = StandIn.judge(words, verdicts);
+        let answer = StandIn.judge(&misread(self.0, words), verdicts);
         match (self.0, Record::read(words)) {
             (WritesWhenRefused, _) if answer != 0 => verdicts.fill(0),
             (WritesBehindTheAnswer, _) if answer == 0 && verdicts.len() > CHECKS => {
@@ -111,6 +129,7 @@ impl Library for Faulty {
         let answer = StandIn.offer(docket, words);
         match self.0 {
             ExactTenthDisagrees if answer == 0 => disagree_at_a_tenth(&before, docket),
+            AgreesInMicrograms if answer == 0 => agree_in_micrograms(&before, docket),
             HoldsTheFirst if answer == 0 && before[DOCKET_COUNT] > 0 => {
                 docket[HELD].copy_from_slice(&before[HELD]);
             }
@@ -128,6 +147,14 @@ impl Library for Faulty {
     }
 
     fn signals(&self, setup: &[u32], later: &[u32], signals: &mut [u32]) -> u32 {
+        match self.0 {
+            GreatValuesRefused if has_a_great_value(setup, later) => return CHART,
+            ValueBeyondTaken => {
+                let [setup, later] = [setup, later].map(without_the_value_beyond);
+                return StandIn.signals(&setup, &later, signals);
+            }
+            _ => {}
+        }
         let answer = StandIn.signals(setup, later, signals);
         if answer == 0 && self.0 == SixOnOneSide {
             six_on_one_side(setup, later, signals);
@@ -161,24 +188,13 @@ impl Library for Faulty {
     }
 }
 
-/// Every float on a tie replaced by the one before it, whose amount is the
-/// lower one.
-fn ties_lowered(words: &[u32]) -> Vec<u32> {
-    static TIES: OnceLock<HashSet<u32>> = OnceLock::new();
-    let ties = TIES.get_or_init(|| ties().into_iter().collect());
-    let lowered = |(place, &word): (usize, &u32)| {
-        let in_readings = (FIRST_READING..READINGS_END).contains(&place);
-        let is_float = in_readings && (place - FIRST_READING) % READING_WORDS == BITS;
-        word - u32::from(is_float && ties.contains(&word))
-    };
-    words.iter().enumerate().map(lowered).collect()
-}
-
 fn distort(fault: Fault, record: &Record, verdicts: &mut [u32]) {
     match fault {
         LimitExcluded => exclude_the_limit(record, verdicts),
         FloorForHydrogen => take_the_floor(record, verdicts),
         CarbonLineIncluded => include_the_carbon_line(record, verdicts),
+        CarbonLineKept => keep_the_carbon_line(record, verdicts),
+        ChargeUnitKept => keep_the_charge_unit(record, verdicts),
         TwentyInTheUpperClass if record.conductivity == 200 && verdicts[BALANCE_CHECK] == 1 => {
             let mut above = record.clone();
             above.conductivity = 201;
@@ -227,6 +243,54 @@ fn include_the_carbon_line(record: &Record, verdicts: &mut [u32]) {
     }
 }
 
+/// Runoff judged only with less carbon than half a mg/L.
+fn keep_the_carbon_line(record: &Record, verdicts: &mut [u32]) {
+    let carbon = record.amount(ORGANIC_CARBON);
+    if record.kind == RUNOFF && carbon.is_some_and(|carbon| carbon >= KEPT_CARBON_LINE) {
+        verdicts[BALANCE_CHECK] = 0;
+    }
+}
+
+/// 10^4 u kept for each tenth of a µg/L: as much charge as ten times the amount
+/// has, up to the greatest amount.
+fn keep_the_charge_unit(record: &Record, verdicts: &mut [u32]) {
+    let tenfold = |reading: Reading| Some((10 * reading.amount()?).min(MOST_AMOUNT));
+    let Ok(mut charged) = Record::read(&with_amounts(&record.words, tenfold)) else {
+        return;
+    };
+    verdicts[CONDUCTIVITY_CHECK] = conductivity(&charged).number();
+    if verdicts[BALANCE_CHECK] != 0 {
+        // Carbon has no charge: runoff stays on its side of the line.
+        charged.kind = BULK;
+        verdicts[BALANCE_CHECK] = ion_balance(&charged).number();
+    }
+}
+
+/// The state of a docket whose last record is neither consistent nor confirmed.
+fn doubtful_state(count: u32) -> u32 {
+    if count == 3 {
+        3
+    } else {
+        0
+    }
+}
+
+/// Two records that aren't consistent compared in whole µg/L.
+fn agree_in_micrograms(before: &[u32], docket: &mut [u32]) {
+    let records = [&before[HELD], &docket[HELD]]
+        .map(|words| Record::read(&with_amounts(words, in_micrograms)));
+    let (0 | 2 | 3, 2 | 3, [Ok(first), Ok(second)]) =
+        (docket[DOCKET_STATE], docket[DOCKET_COUNT], records)
+    else {
+        return;
+    };
+    docket[DOCKET_STATE] = if agree(&first, &second) {
+        2
+    } else {
+        doubtful_state(docket[DOCKET_COUNT])
+    };
+}
+
 /// Reopens, or leaves unsettled, a docket that was confirmed with a difference
 /// of exactly a tenth.
 fn disagree_at_a_tenth(before: &[u32], docket: &mut [u32]) {
@@ -241,8 +305,20 @@ fn disagree_at_a_tenth(before: &[u32], docket: &mut [u32]) {
         (first.alkalinity, second.alkalinity),
     ];
     if words.into_iter().chain(ions).any(|(a, b)| exact(a, b)) {
-        docket[DOCKET_STATE] = if docket[DOCKET_COUNT] == 3 { 3 } else { 0 };
+        docket[DOCKET_STATE] = doubtful_state(docket[DOCKET_COUNT]);
     }
+}
+
+/// Whether a chart that is to be taken has a value of more than 200,000.
+fn has_a_great_value(setup: &[u32], later: &[u32]) -> bool {
+    let mut values = setup.iter().chain(later);
+    answers::signals(setup, later).is_ok() && values.any(|&value| value > KEPT_MOST_VALUE)
+}
+
+/// The value one beyond the greatest taken for that.
+fn without_the_value_beyond(values: &[u32]) -> Vec<u32> {
+    let taken = |&value: &u32| value - u32::from(value == MOST_VALUE + 1);
+    values.iter().map(taken).collect()
 }
 
 fn six_on_one_side(setup: &[u32], later: &[u32], signals: &mut [u32]) {
@@ -358,6 +434,18 @@ mod tests {
         };
         let found = (values("setup"), values("later"));
         assert_eq!(found, (LEAST_SETUP, 6), "{input}");
+    }
+
+    #[test]
+    fn a_value_beyond_shrinks_to_that_value_among_zeros() {
+        let input = smallest_input(ValueBeyondTaken);
+        let beyond = (MOST_VALUE + 1).to_string();
+        let numbers = input.split(|c: char| !c.is_ascii_digit());
+        let zeros = numbers.filter(|&number| number == "0").count();
+        assert!(
+            input.contains(&beyond) && zeros >= LEAST_SETUP - 1,
+            "{input}"
+        );
     }
 
     #[test]

@@ -1,22 +1,40 @@
-//! Floats by their amounts: a table of where each amount begins, as the search
-//! for one is too slow for a million records.
+//! Floats by their amounts. Where an amount begins is worked out here: the
+//! other implementation's search for it is too slow for a million records, and
+//! for a table of all two million amounts.
 
-use crate::numbers::{LEAST_LIMIT_BITS, MOST_AMOUNT, MOST_BELOW, MOST_BITS};
+use crate::numbers::{LEAST_BELOW, LEAST_LIMIT_BITS, MOST_BELOW, MOST_BITS, PER_MILLIGRAM};
 use crate::random::Draw;
-use reference::cases::floats::{least_float_of, DOUBLE};
+use reference::cases::floats::DOUBLE;
 use reference::cases::generator::Generator;
-use std::sync::OnceLock;
 
-/// The least float of every amount, and behind them the one beyond 200.0.
-fn firsts() -> &'static [u32] {
-    static FIRSTS: OnceLock<Vec<u32>> = OnceLock::new();
-    FIRSTS.get_or_init(|| (0..=MOST_AMOUNT + 1).map(least_float_of).collect())
+/// The least float of at least (2 × amount − 1) / 20,000 mg/L, as a half goes
+/// up: amount − 1/2 tenths of a µg/L.
+fn first_float(amount: u32) -> u32 {
+    if amount == 0 {
+        return 0;
+    }
+    let numerator = 2 * u64::from(amount) - 1;
+    let denominator = 2 * u64::from(PER_MILLIGRAM);
+    // A mantissa has 24 bits: as many places behind the point as make the
+    // quotient at least 2^23. Up to 200 mg/L and a little more they are at
+    // least 16; down to 1/20,000 they are at most 38.
+    let mut places = 16;
+    while numerator << places < denominator << 23 {
+        places += 1;
+    }
+    let mantissa = (numerator << places).div_ceil(denominator) as u32;
+    // The mantissa's first bit is worth 2^(23 − places). That exponent is kept
+    // with an excess of 127; the bit itself isn't kept. A mantissa that was
+    // rounded up to 2^24 carries into the exponent, as it should.
+    ((127 + 23 - places) << 23) + (mantissa - (1 << 23))
 }
 
-/// The least and the greatest float of an amount.
+/// The least and the greatest float of an amount. There are always some: even
+/// next to 200 mg/L, where floats are 2^−16 apart, an amount before the last has
+/// six or seven.
 pub fn ends(amount: u32) -> (u32, u32) {
-    let amount = amount as usize;
-    (firsts()[amount], firsts()[amount + 1] - 1)
+    let last = first_float(amount + 1) - 1;
+    (first_float(amount), last.min(MOST_BITS))
 }
 
 /// A float of this amount: an end of its range or any within.
@@ -31,7 +49,7 @@ pub fn any_float(generator: &mut Generator, amount: u32) -> u32 {
 
 /// A limit whose half has this amount, where there is one.
 pub fn any_limit(generator: &mut Generator, amount: u32) -> Option<u32> {
-    if amount > MOST_BELOW {
+    if !(LEAST_BELOW..=MOST_BELOW).contains(&amount) {
         return None;
     }
     let (first, last) = ends(amount);
@@ -66,30 +84,46 @@ pub fn scattered_reading(generator: &mut Generator) -> (u32, u32) {
 #[cfg(test)]
 mod tests {
     use super::*;
-    use crate::numbers::CARBON_LINE;
+    use crate::numbers::{CARBON_LINE, MOST_AMOUNT, MOST_TRACE};
+    use reference::cases::floats::least_float_of;
     use reference::readings::Reading;
+
+    /// Amounts at which something begins or ends: all traces, ties (1/32 mg/L
+    /// is 312.5), the line of carbon, the greatest limit's half.
+    fn edges() -> impl Iterator<Item = u32> {
+        let others = [312, 313, 624, 625, CARBON_LINE - 1, CARBON_LINE];
+        let halves = [MOST_BELOW - 1, MOST_BELOW, MOST_BELOW + 1];
+        let most = [MOST_AMOUNT - 1, MOST_AMOUNT];
+        (0..=MOST_TRACE).chain(others).chain(halves).chain(most)
+    }
+
+    #[test]
+    fn amounts_begin_where_the_search_finds_them() {
+        let mut generator = Generator::new(3);
+        // The powers of 2 from 1 to 128 mg/L, at which floats get coarser.
+        let powers = (0..=7).map(|power| PER_MILLIGRAM << power);
+        let beside = powers.flat_map(|power| power - 1..=power + 1);
+        let any: Vec<u32> = (0..5_000)
+            .map(|_| generator.of_any_size(MOST_AMOUNT))
+            .collect();
+        for amount in edges().chain(beside).chain(any) {
+            let last = least_float_of(amount + 1) - 1;
+            assert_eq!(ends(amount), (least_float_of(amount), last), "{amount}");
+        }
+    }
 
     #[test]
     fn drawn_readings_have_their_amounts() {
         let mut generator = Generator::new(1);
-        let (line, half) = (CARBON_LINE, MOST_BELOW);
-        for amount in [
-            0,
-            1,
-            62,
-            63,
-            line - 1,
-            line,
-            half - 1,
-            half,
-            half + 1,
-            MOST_AMOUNT,
-        ] {
+        for amount in edges() {
+            let mut below = false;
             for _ in 0..200 {
                 let (mark, bits) = any_reading(&mut generator, amount);
                 let reading = Reading::from_words(mark, bits);
                 assert_eq!(reading.map(Reading::amount), Ok(Some(amount)));
+                below |= mark == 2;
             }
+            assert_eq!(below, (LEAST_BELOW..=MOST_BELOW).contains(&amount));
         }
     }
 

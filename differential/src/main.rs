@@ -1,4 +1,5 @@
-//! The proved library against the other implementation of document 01.
+//! The proved library against the other implementation of document 01, with
+//! request (i) of document 02.
 
 mod answers;
 mod batches;

@@ -1,6 +1,7 @@
 //! The numbers that draws and comparisons go by. Where words stand is the other
 //! implementation's to say, as its bottles and batches are what is drawn; how
-//! far values reach is said here once more, by document 01.
+//! far values reach is said here once more, by document 01 and, for amounts and
+//! chart values, by request (i) of document 02.
 
 // Some of these are for the faults or for tests alone.
 #[allow(unused_imports)]
@@ -8,9 +9,10 @@ pub use reference::numbers::{
     answer_words, bits_of, mark_of, ALKALINITY, AMMONIUM, BALANCE_CHECK, BITS, BULK, CALCIUM,
     CHART_ELEMENT, CHART_HEAD, CHART_LATER, CHART_SETUP, CHECKS, CHLORIDE, CONDUCTIVITY,
     CONDUCTIVITY_CHECK, CONDUCTIVITY_TENTH, COUNT_WORDS, FIRST_READING, IONS, KIND,
-    LEAST_LIMIT_BITS, MOST_BITS, MOST_BYTES, MOST_SAMPLES, NITRATE, NUMBER, ORGANIC_CARBON, PH,
-    POTASSIUM, READINGS, READINGS_END, READING_WORDS, RECORD_WORDS, ROW_FLAG, ROW_WORDS, RUNOFF,
-    SODIUM, SOIL_WATER, SULPHATE, TOTAL_NITROGEN, WET_ONLY, WORD_BYTES,
+    LEAST_LIMIT_BITS, MAGNESIUM, MOST_BITS, MOST_BYTES, MOST_SAMPLES, NITRATE, NITROGEN_CHECK,
+    NUMBER, ORGANIC_CARBON, PH, POTASSIUM, RATIO_CHECK, READINGS, READINGS_END, READING_WORDS,
+    RECORD_WORDS, ROW_FLAG, ROW_WORDS, RUNOFF, SODIUM, SOIL_WATER, SULPHATE, TOTAL_NITROGEN,
+    WET_ONLY, WORD_BYTES,
 };
 
 /// "sample number, 1 to 999,999"
@@ -32,18 +34,25 @@ pub const RANGES: [(usize, u32, u32); 5] = [
     (ALKALINITY, 0, MOST_ALKALINITY),
 ];
 
-/// 200 mg/L in µg/L, and half of that for a limit.
-pub const MOST_AMOUNT: u32 = 200_000;
+/// "Amounts become tenths of a µg/L": 10,000 to a mg/L.
+pub const PER_MILLIGRAM: u32 = 10_000;
+/// 200 mg/L in tenths of a µg/L, and half of that for a limit.
+pub const MOST_AMOUNT: u32 = 2_000_000;
 pub const MOST_BELOW: u32 = MOST_AMOUNT / 2;
-/// "DOC present and below 5,000 µg/L"
-pub const CARBON_LINE: u32 = 5_000;
+/// Half the least limit is 2^−11 mg/L, 4.88 tenths of a µg/L: no reading below
+/// its limit has an amount of 4 or less.
+pub const LEAST_BELOW: u32 = 5;
+/// "At a few µg/L": what is drawn as a trace is at most 30.0 µg/L.
+pub const MOST_TRACE: u32 = 300;
+/// "The DOC line at 5 mg/L is 50,000."
+pub const CARBON_LINE: u32 = 50_000;
 
 /// "10 to 64 setup values, then 0 to 64 later ones"
 pub const LEAST_SETUP: usize = 10;
 pub const MOST_SETUP: usize = 64;
 pub const MOST_LATER: usize = 64;
-/// "Values in µg/L, 0 to 200,000"
-pub const MOST_VALUE: u32 = 200_000;
+/// "Chart values are in tenths too, 0 to 2,000,000."
+pub const MOST_VALUE: u32 = 2_000_000;
 
 /// "charts (0 to 10: element 1 to 10 in reading order"
 pub const MOST_CHARTS: usize = 10;
@@ -71,6 +80,7 @@ pub const MARGIN: usize = RECORD_WORDS + ROW_WORDS + 1;
 mod tests {
     use super::*;
     use reference::numbers;
+    use reference::readings::Reading;
 
     /// A limit that was changed in one place alone.
     #[test]
@@ -81,6 +91,7 @@ mod tests {
             (MOST_PH, numbers::MOST_PH),
             (MOST_CONDUCTIVITY, numbers::MOST_CONDUCTIVITY),
             (MOST_ALKALINITY, numbers::MOST_ALKALINITY),
+            (PER_MILLIGRAM, numbers::PER_MILLIGRAM),
             (MOST_AMOUNT, numbers::MOST_AMOUNT),
             (CARBON_LINE, numbers::CARBON_LINE),
             (MOST_VALUE, numbers::MOST_VALUE),
@@ -91,6 +102,14 @@ mod tests {
             (MOST_LATER as u32, numbers::MOST_LATER as u32),
         ] {
             assert_eq!(here, there);
+        }
+    }
+
+    #[test]
+    fn the_ends_of_all_limits_have_these_amounts() {
+        for (limit, amount) in [(LEAST_LIMIT_BITS, LEAST_BELOW), (MOST_BITS, MOST_BELOW)] {
+            let below = Reading::below(limit).map(Reading::amount);
+            assert_eq!(below, Ok(Some(amount)));
         }
     }
 

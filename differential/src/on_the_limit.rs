@@ -3,8 +3,13 @@
 //!
 //! An end of the span of hydrogen for which an inequality holds is
 //! `unit × N / divisor` u with a whole number N (`Bound` of the other
-//! implementation tells which). The ions that give a wanted N are found by
-//! remainders here, where `Bound` itself searches step by step.
+//! implementation tells which). As all charges but hydrogen's are multiples of
+//! 10^3 u, the ion balance's ends are 10^3 × N / 9, 11, 19 or 21: 48 to 111 u
+//! apart. For conductivity 350,000 × H is compared with multiples of 100 × 10^3,
+//! so its ends are 10^5 × N / 350,000, which is 2 × N / 7: three of them lie
+//! between any h and h + 1, and one on the even one of these. The ions that give
+//! a wanted N are found by remainders here, where `Bound` itself searches step
+//! by step.
 
 use crate::numbers::{
     self, CALCIUM, CHLORIDE, CONDUCTIVITY_TENTH, IONS, LEAST_PH, MOST_CONDUCTIVITY, MOST_PH,
@@ -41,7 +46,7 @@ pub fn bottle_on_a_limit(generator: &mut Generator) -> Option<Bottle> {
         let least = 2 * HYDROGEN_CONDUCTANCE * h / CONDUCTIVITY_TENTH;
         *tenths = tenths_from(generator, least as u32 + 10);
     }
-    let n = bound.last_up_to(h) - 1 + i128::from(generator.below(4));
+    let n = drawn_n(generator, bound, h);
     let ions = match bound {
         Bound::Balance(tenths, end) => balancing(generator, tenths, end, n),
         Bound::Conductivity(tenths, end) => conducting(generator, tenths, end, n),
@@ -49,13 +54,23 @@ pub fn bottle_on_a_limit(generator: &mut Generator) -> Option<Bottle> {
     Some(ions?.bottle(ph, bound))
 }
 
+/// An N whose end is on h, on h + 1 or between them, or the next one before or
+/// after these.
+fn drawn_n(generator: &mut Generator, bound: Bound, h: i128) -> i128 {
+    let first = bound.last_up_to(h) - 1;
+    let last = bound.last_up_to(h + 1) + 1;
+    first + i128::from(generator.below((last - first) as u32 + 1))
+}
+
 /// A p with whole hydrogen, or one at which an end can fall between h and
-/// h + 1, or one at which it can fall on one of these.
+/// h + 1, or one at which it can fall on one of these. For conductivity every p
+/// is all of this. The ion balance has 5 to 13 p with an end between, by its
+/// divisor, and none with an end on h or h + 1 where hydrogen isn't whole, as no
+/// such floor ends in 000 or 999: there any p is drawn.
 fn drawn_ph(generator: &mut Generator, bound: Bound) -> Option<Ph> {
-    let (unit, _) = bound.unit_and_divisor();
     let promising: Vec<Ph> = match generator.below(4) {
         0 => broken_hydrogen(|h| bound.is_between(bound.last_up_to(h) + 1, h)),
-        1 => broken_hydrogen(|h| h % unit == 0 || (h + 1) % unit == 0),
+        1 => broken_hydrogen(|h| bound.reaches(h) || bound.reaches(h + 1)),
         _ => (LEAST_PH..=MOST_PH)
             .step_by(100)
             .filter_map(|p| Ph::new(p).ok())
@@ -133,7 +148,8 @@ fn charges(amounts: &[i128; IONS], ions: std::ops::Range<usize>) -> i128 {
 
 fn balancing(generator: &mut Generator, tenths: u32, end: End, n: i128) -> Option<Ions> {
     let (weight, divisor) = balance_weights(tenths, end);
-    let most = generator.pick(&[100, 3_000, 30_000]);
+    // From traces to 30 mg/L.
+    let most = generator.pick(&[100, 1_000, 30_000, 300_000]);
     (0..DRAWS).find_map(|_| {
         let mut amounts = [0; IONS];
         for amount in &mut amounts[CATIONS] {
@@ -150,7 +166,9 @@ fn balancing(generator: &mut Generator, tenths: u32, end: End, n: i128) -> Optio
 }
 
 /// Draws sulphate and nitrate; chloride is what leaves a whole number of tenths
-/// of a µeq/L to alkalinity.
+/// of a µeq/L to alkalinity. Such a tenth is 10^8 u, 10^5 times the unit of the
+/// other charges, and chloride's factor shares none with it: of any 10^5
+/// amounts in a row one leaves no remainder, so chloride is below 10 mg/L.
 fn anions_of(generator: &mut Generator, mut amounts: [i128; IONS], anions: i128) -> Option<Ions> {
     for ion in [SULPHATE, NITRATE] {
         let most = anions / 3 / TABLE[ion].factor;
@@ -173,14 +191,20 @@ fn conducting(generator: &mut Generator, tenths: u32, end: End, n: i128) -> Opti
     (0..DRAWS).find_map(|_| ions_conducting(generator, sum))
 }
 
-/// The greatest number that divides what chloride adds and what potassium does.
+/// The greatest number that divides what a tenth of a µg/L of chloride adds,
+/// 2821 × 764 = 2² × 7 × 13 × 31 × 191, and what one of potassium does,
+/// 2558 × 735 = 2 × 3 × 5 × 7² × 1279. Both are f × c times a unit that all
+/// charges have, so a finer scale of amounts leaves it as it is.
 const SHARED: i128 = 14;
 const A: i128 = conducted(CHLORIDE) / SHARED;
 const B: i128 = conducted(POTASSIUM) / SHARED;
 const INVERSE: i128 = inverse(A, B);
 
-/// Draws all but potassium and chloride; these two are the solution of
-/// chloride × A + potassium × B = rest / SHARED with the least chloride.
+/// Draws all but potassium and chloride; these two are a solution of
+/// chloride × A + potassium × B = rest / SHARED. The least chloride is below B,
+/// 134,295 tenths of a µg/L, and up to 200 mg/L there may be 14 more, each B
+/// further: any of them is drawn, so that potassium need not make up all the
+/// rest.
 fn ions_conducting(generator: &mut Generator, sum: i128) -> Option<Ions> {
     let mut amounts = [0; IONS];
     let mut share = |conducted: i128| {
@@ -197,8 +221,15 @@ fn ions_conducting(generator: &mut Generator, sum: i128) -> Option<Ions> {
     if rest < 0 || rest % SHARED != 0 {
         return None;
     }
-    amounts[CHLORIDE] = rest / SHARED % B * INVERSE % B;
-    amounts[POTASSIUM] = (rest / SHARED - amounts[CHLORIDE] * A) / B;
+    let rest = rest / SHARED;
+    let least = rest % B * INVERSE % B;
+    let most = (rest / A).min(MOST_AMOUNT);
+    if least > most {
+        return None;
+    }
+    let more = generator.below(((most - least) / B) as u32 + 1);
+    amounts[CHLORIDE] = least + B * i128::from(more);
+    amounts[POTASSIUM] = (rest - amounts[CHLORIDE] * A) / B;
     let ions = Ions {
         amounts,
         alkalinity,
@@ -214,16 +245,19 @@ mod tests {
     use reference::checks::{Conductivity, Fraction, Inequality, IonBalance, Span};
     use reference::record::Record;
 
+    /// Where A has an inverse by B, no greater number than SHARED divides both.
     #[test]
     fn inverses_are_inverses() {
+        assert_eq!((A * SHARED, B * SHARED), (2_821 * 764, 2_558 * 735));
         assert_eq!(A * INVERSE % B, 1);
         let factor = TABLE[CHLORIDE].factor;
         assert_eq!(factor * inverse(factor, TENTH_CHARGES) % TENTH_CHARGES, 1);
     }
 
-    /// Whether the fraction is less than a step of N from this hydrogen.
+    /// Whether the fraction is at most two of the ion balance's longest steps,
+    /// 10^3 / 9 u, from this hydrogen.
     fn is_near(end: Fraction, h: i128) -> bool {
-        (end.numerator - h * end.denominator).abs() <= 20_000 * end.denominator
+        9 * (end.numerator - h * end.denominator).abs() <= 2_000 * end.denominator
     }
 
     #[test]

@@ -42,9 +42,14 @@ struct Row {
     published: [u32; CHECKS],
 }
 
-fn rows() -> Vec<Row> {
+/// The sheet's rows as they are written, without comments and heads.
+fn lines() -> impl Iterator<Item = &'static str> {
     let lines = SHEET.lines().filter(|line| !line.starts_with('#'));
-    lines.skip(1).map(Row::read).collect()
+    lines.skip(1)
+}
+
+fn rows() -> Vec<Row> {
+    lines().map(Row::read).collect()
 }
 
 impl Row {
@@ -147,6 +152,7 @@ mod tests {
     use super::*;
     use crate::answers::judge;
     use crate::numbers::RANGES;
+    use reference::readings::Reading;
 
     #[test]
     fn the_sheet_has_24_rows_of_bulk_samples() {
@@ -172,6 +178,21 @@ mod tests {
             }
         }
         assert_eq!(parting, [(PARTING.0, PARTING.1, 1, 2)]);
+    }
+
+    /// The sheet prints whole µg/L: the nearest float has that amount exactly,
+    /// in tenths as it had in µg/L, so no judgement hangs on the scale.
+    #[test]
+    fn readings_have_the_amounts_that_are_printed() {
+        for line in lines() {
+            let fields: Vec<&str> = line.split('\t').collect();
+            let readings = &fields[READING_COLUMNS..JUDGEMENT_COLUMNS];
+            for field in readings.iter().filter(|field| !field.is_empty()) {
+                let reading = Reading::measured(nearest_float(field));
+                let printed = 10 * scaled(field, 3);
+                assert_eq!(reading.map(Reading::amount), Ok(Some(printed)), "{line}");
+            }
+        }
     }
 
     #[test]

@@ -1,4 +1,4 @@
-//! "Charts": control charts of values in µg/L.
+//! "Charts": control charts of values in tenths of a µg/L.
 
 use crate::numbers::{LEAST_SETUP, MOST_LATER, MOST_SETUP, MOST_VALUE};
 use crate::refusals::{require, Refusal, CHART, COUNT, OUTPUT};
@@ -20,15 +20,15 @@ pub fn test_counts(setup: usize, later: usize) -> Result<(), Refusal> {
     require(setup_fits && later <= MOST_LATER, COUNT)
 }
 
-/// "Values in µg/L, 0 to 200,000": else 10.
+/// "Chart values are in tenths too, 0 to 2,000,000" (document 02 (i)): else 10.
 pub fn test_values(values: &[u32]) -> Result<(), Refusal> {
     require(values.iter().all(|&value| value <= MOST_VALUE), CHART)
 }
 
 /// "With n setup values, sum S and sum of squares Q".
 ///
-/// n is at most 64 and a value at most 200,000: n × v and S are below 2 × 10^7
-/// and the products of the rule below 10^17, far within an i128.
+/// n is at most 64 and a value at most 2,000,000: n × v and S are below
+/// 2 × 10^8 and the products of the rule below 10^19, far within an i128.
 struct Setup {
     n: i128,
     sum: i128,
@@ -140,7 +140,7 @@ pub fn last_signal(setup: &[u32], later: &[u32]) -> Result<u32, Refusal> {
 #[cfg(test)]
 mod tests {
     use super::*;
-    use crate::cases::charts::{every_sum, Worked, WIDE};
+    use crate::cases::charts::{every_sum, moved_up, Worked, WIDE};
     use crate::cases::charts::{PAIRS_BEYOND_TWO, RISING_THROUGH_THE_LIMITS, WITHOUT_VARIANCE};
 
     /// Mean 1,000; two deviations are 4 exactly, three are 6 exactly.
@@ -210,6 +210,7 @@ mod tests {
     fn every_sum_of_signals() {
         for (sum, later) in every_sum() {
             assert_eq!(last_signal(&WIDE, &later), Ok(sum));
+            assert_eq!(last_signal(&moved_up(&WIDE), &moved_up(&later)), Ok(sum));
         }
     }
 

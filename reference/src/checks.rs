@@ -53,7 +53,7 @@ pub fn is_consistent(record: &Record) -> bool {
 
 /// A fraction; its denominator is above 0.
 ///
-/// No product here leaves an i128. An amount is at most 200,000 and f below
+/// No product here leaves an i128. An amount is at most 2,000,000 and f below
 /// 10^4, so a charge is below 2 × 10^13 u and a sum of ten of them below
 /// 2 × 10^14; a conductance below 10^3 times that, and CM, are at most 2 × 10^17
 /// units of 10^−13 µS/cm. Numerators are below 500 times that, 10^20;
@@ -189,7 +189,8 @@ impl Inequality for IonBalance {
     }
 }
 
-/// "Kinds 1 and 2, and kind 5 with DOC present and below 5,000 µg/L."
+/// "Kinds 1 and 2, and kind 5 with DOC present and below" its line: "The DOC
+/// line at 5 mg/L is 50,000" (document 02 (i)).
 fn balance_applies(record: &Record) -> bool {
     match record.kind {
         WET_ONLY | BULK => true,

@@ -1,4 +1,5 @@
-//! "Charge and conductance": the table of document 01.
+//! "Charge and conductance": the table of document 01, and the charge of an
+//! amount by document 02 (i).
 
 use crate::numbers::{ALKALINITY_CHARGE, AMMONIUM, AMOUNT_CHARGE, IONS, SULPHATE};
 
@@ -9,7 +10,7 @@ pub const ANIONS: std::ops::Range<usize> = SULPHATE..IONS;
 
 /// A row of the table.
 pub struct Row {
-    /// f: "An ion of amount a has a × f × 10^4 u of charge."
+    /// f: "An ion's charge is then amount × f × 10^3 u" (02 (i)).
     pub factor: i128,
     /// c: "Each u of an ion adds c units of 10^−13 µS/cm."
     pub conductance: i128,
@@ -39,7 +40,7 @@ pub const HYDROGEN_CONDUCTANCE: i128 = 3500;
 /// The c of alkalinity.
 pub const ALKALINITY_CONDUCTANCE: i128 = 445;
 
-/// The charge of an ion in u: a × f × 10^4.
+/// The charge of an ion in u: amount × f × 10^3.
 pub fn charge(ion: usize, amount: u32) -> i128 {
     i128::from(amount) * TABLE[ion].factor * AMOUNT_CHARGE
 }

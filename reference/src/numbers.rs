@@ -1,5 +1,6 @@
-//! Document 01's numbers in one place: where words stand, how many there are
-//! and how far values reach. What follows from others is worked out from them.
+//! The numbers of documents 01 and 02 (i) in one place: where words stand, how
+//! many there are and how far values reach. What follows from others is worked
+//! out from them. A comment quotes document 01 unless it names 02 (i).
 
 use std::ops::{Range, RangeInclusive};
 
@@ -82,16 +83,19 @@ pub const MOST_MILLIGRAMS: u32 = 200;
 pub const MOST_BITS: u32 = 0x4348_0000;
 /// The bits of the least limit, "2^−10 (0x3A800000)".
 pub const LEAST_LIMIT_BITS: u32 = 0x3A80_0000;
-/// "The amount is 1,000 times the exact value of the float."
-pub const PER_MILLIGRAM: u32 = 1_000;
+/// "Amounts become tenths of a µg/L .., so 1/16 mg/L gives 625" (02 (i)): the
+/// amount is 10,000 times the exact value of the float.
+pub const PER_MILLIGRAM: u32 = 10_000;
 pub const MOST_AMOUNT: u32 = MOST_MILLIGRAMS * PER_MILLIGRAM;
-/// "A below reading counts as half its limit."
+/// "A below reading counts as half its limit." Half of the least limit is
+/// 2^−11 mg/L, and its amount the nearest whole number.
+pub const LEAST_BELOW: u32 = (PER_MILLIGRAM + (1 << 10)) >> 11;
 pub const MOST_BELOW: u32 = MOST_AMOUNT / 2;
 
 // "Charge and conductance" and "The four checks"
 
-/// "An ion of amount a has a × f × 10^4 u of charge."
-pub const AMOUNT_CHARGE: i128 = 10_000;
+/// "An ion's charge is then amount × f × 10^3 u" (02 (i)).
+pub const AMOUNT_CHARGE: i128 = 1_000;
 /// "Alkalinity, t tenths of a µeq/L, has t × 10^8 u."
 pub const ALKALINITY_CHARGE: i128 = 100_000_000;
 /// A tenth of a µS/cm in units of 10^−13 µS/cm.
@@ -104,7 +108,7 @@ pub const CONDUCTIVITY_CHECK: usize = 1;
 pub const RATIO_CHECK: usize = 2;
 pub const NITROGEN_CHECK: usize = 3;
 
-/// "DOC present and below 5,000 µg/L": 5 mg/L.
+/// "The DOC line at 5 mg/L is 50,000" (02 (i)).
 pub const CARBON_LINE: u32 = 5 * PER_MILLIGRAM;
 
 // "Charts"
@@ -113,8 +117,8 @@ pub const CARBON_LINE: u32 = 5 * PER_MILLIGRAM;
 pub const LEAST_SETUP: usize = 10;
 pub const MOST_SETUP: usize = 64;
 pub const MOST_LATER: usize = 64;
-/// "Values in µg/L, 0 to 200,000".
-pub const MOST_VALUE: u32 = 200_000;
+/// "Chart values are in tenths too, 0 to 2,000,000" (02 (i)).
+pub const MOST_VALUE: u32 = 2_000_000;
 
 // "A batch"
 
@@ -184,10 +188,12 @@ mod tests {
     use super::*;
 
     #[test]
-    fn what_is_worked_out_is_what_document_01_prints() {
+    fn what_is_worked_out_is_what_the_documents_print() {
         assert_eq!(RECORD_WORDS, 25);
         assert_eq!(SAMPLE, 0..2);
-        assert_eq!((CARBON_LINE, MOST_AMOUNT), (5_000, 200_000));
+        assert_eq!((CARBON_LINE, MOST_AMOUNT), (50_000, 2_000_000));
+        // Half of the least limit is 4.8828125 tenths of a µg/L.
+        assert_eq!((LEAST_BELOW, MOST_BELOW), (5, 1_000_000));
         assert_eq!(f32::from_bits(MOST_BITS), MOST_MILLIGRAMS as f32);
         assert_eq!(f32::from_bits(LEAST_LIMIT_BITS), 2f32.powi(-10));
         assert_eq!(ROW_WORDS, 6);

@@ -63,12 +63,12 @@ impl Exact {
         }
     }
 
-    /// "The amount is 1,000 times the exact value of the float, rounded to a
-    /// whole number of µg/L, a tie going up": the whole part of 1,000 times
-    /// the value plus a half.
+    /// "Amounts become tenths of a µg/L, still nearest with a tie up" (document
+    /// 02 (i)), from "the exact value of the float": the whole part of 10,000
+    /// times the value plus a half.
     fn amount(self) -> u32 {
-        // Up to 200 a float's exponent is −16 or less. 2,000 times a mantissa
-        // is below 2^35, so from 2^36 on the denominator makes the amount 0,
+        // Up to 200 a float's exponent is −16 or less. 20,000 times a mantissa
+        // is below 2^39, so from 2^39 on the denominator makes the amount 0,
         // and one of 2^100 stands for all the greater ones.
         let places = (-self.exponent).clamp(0, 100);
         let denominator = 1u128 << places;
@@ -151,7 +151,8 @@ impl Reading {
         self == Reading::Missing
     }
 
-    /// The amount in whole µg/L, or nothing where the reading is missing.
+    /// The amount in whole tenths of a µg/L, or nothing where the reading is
+    /// missing. Half a limit is rounded once, after halving.
     pub fn amount(self) -> Option<u32> {
         match self {
             Reading::Missing => None,
@@ -173,7 +174,7 @@ impl Reading {
 #[cfg(test)]
 mod tests {
     use super::*;
-    use crate::numbers::{LEAST_LIMIT_BITS, MOST_AMOUNT, MOST_BELOW, MOST_BITS};
+    use crate::numbers::{LEAST_BELOW, LEAST_LIMIT_BITS, MOST_AMOUNT, MOST_BELOW, MOST_BITS};
 
     fn measured_amount(bits: u32) -> Result<Option<u32>, Refusal> {
         Reading::measured(bits).map(Reading::amount)
@@ -184,22 +185,42 @@ mod tests {
     }
 
     #[test]
-    fn proved_case_4_is_a_tie_that_goes_up() {
-        assert_eq!(measured_amount(0x3D80_0000), Ok(Some(63)));
-        assert_eq!(measured_amount(0x3D7F_FFFF), Ok(Some(62)));
-        assert_eq!(measured_amount(0x3D80_0001), Ok(Some(63)));
+    fn proved_case_4_is_whole_and_a_tie_goes_up() {
+        // 1/16 mg/L is 625 tenths of a µg/L, 1/32 is 312 and a half.
+        for bits in [0x3D7F_FFFF, 0x3D80_0000, 0x3D80_0001] {
+            assert_eq!(measured_amount(bits), Ok(Some(625)));
+        }
+        assert_eq!(measured_amount(0x3D00_0000), Ok(Some(313)));
+        assert_eq!(measured_amount(0x3CFF_FFFF), Ok(Some(312)));
+        assert_eq!(measured_amount(0x3D00_0001), Ok(Some(313)));
     }
 
     #[test]
     fn every_tie_goes_up() {
-        // 1,000 × j/16 is a whole number and a half for every odd j.
-        for j in (1..3_200u32).step_by(2) {
-            let tie = (j as f32 / 16.0).to_bits();
-            let up = (125 * j).div_ceil(2);
+        // 10,000 × j/32 is a whole number and a half for every odd j.
+        for j in (1..6_400u32).step_by(2) {
+            let tie = (j as f32 / 32.0).to_bits();
+            let up = (625 * j).div_ceil(2);
             assert_eq!(measured_amount(tie), Ok(Some(up)));
             assert_eq!(measured_amount(tie - 1), Ok(Some(up - 1)));
             assert_eq!(measured_amount(tie + 1), Ok(Some(up)));
         }
+    }
+
+    #[test]
+    fn half_a_limit_is_rounded_once() {
+        // Half of j/16 is j/32, a tie for every odd j.
+        for j in (1..3_200u32).step_by(2) {
+            let limit = (j as f32 / 16.0).to_bits();
+            let up = (625 * j).div_ceil(2);
+            assert_eq!(below_amount(limit), Ok(Some(up)));
+            assert_eq!(below_amount(limit - 1), Ok(Some(up - 1)));
+            assert_eq!(below_amount(limit + 1), Ok(Some(up)));
+        }
+        // Half of 312.6 tenths is 156.3; rounded to 313 first, it would be a tie.
+        let limit = 0.031_26f32.to_bits();
+        assert_eq!(measured_amount(limit), Ok(Some(313)));
+        assert_eq!(below_amount(limit), Ok(Some(156)));
     }
 
     #[test]
@@ -210,7 +231,7 @@ mod tests {
         assert_eq!(measured_amount(MOST_BITS), Ok(Some(MOST_AMOUNT)));
         assert_eq!(measured_amount(MOST_BITS + 1), Err(READING));
         assert_eq!(below_amount(MOST_BITS), Ok(Some(MOST_BELOW)));
-        assert_eq!(below_amount(LEAST_LIMIT_BITS), Ok(Some(0)));
+        assert_eq!(below_amount(LEAST_LIMIT_BITS), Ok(Some(LEAST_BELOW)));
         assert_eq!(below_amount(LEAST_LIMIT_BITS - 1), Err(READING));
         assert_eq!(below_amount(0), Err(READING));
     }

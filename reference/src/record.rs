@@ -50,7 +50,8 @@ impl Record {
         })
     }
 
-    /// The amount of a reading in µg/L, or nothing where it is missing.
+    /// The amount of a reading in tenths of a µg/L, or nothing where it is
+    /// missing.
     pub fn amount(&self, place: usize) -> Option<u32> {
         self.readings[place].amount()
     }

@@ -14,7 +14,7 @@ pub struct Record {
     pub p: u32,
     pub conductivity: u64,
     pub alkalinity: u64,
-    /// µg/L, or nothing where the reading is missing.
+    /// Tenths of a µg/L, or nothing where the reading is missing.
     pub amounts: [Option<u64>; READINGS],
 }
 

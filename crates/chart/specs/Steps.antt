@@ -7,7 +7,7 @@ use Prim.Native.Nat.{ℕ, _-_, _*_, _≤_}
 use lib.Dec.{leb}
 use lib.ListN.{getD}
 use Rattle.chart.specs.declared.setup.Setup.{Setup}
-use Rattle.chart.specs.Values.{every, mostSetup}
+use Rattle.chart.specs.Values.{every, greatestValue, mostSetup}
 use Rattle.chart.specs.Setups.{square, SetupTerms, beyond, onSide}
 use Rattle.chart.specs.Setups.Side.{Above, Below}
 use Rattle.chart.specs.Rules.{ordered}
@@ -31,10 +31,10 @@ unfoldable pub hasPartner : SetupTerms → ℕ → List ℕ → ℕ → ℕ → 
 hasPartner f v later i places =
     leb places i && (onOneSide f (v ∷ getD later (i - places) 0 ∷ []) && beyond f 2 (getD later (i - places) 0))
 
--- ---- room: there is some for greater values than those that are accepted
+-- ---- room: nothing wraps for values up to the greatest that is accepted
 
 abbrev pub room : ℕ
-room = 2_000_000
+room = greatestValue
 
 -- n × (n×Q − S²) of such values is at most
 abbrev pub mostLimit : ℕ

@@ -1,4 +1,4 @@
--- Document 01, 'Charts': how many values a chart may have and how great they may be, and the refusals of those that it may not.
+-- Document 01, 'Charts', and document 02 (i): how many values a chart may have and how great they may be, and the refusals of those that it may not.
 use mathlib.Core.Bool.{Bool, true, _&&_}
 use mathlib.Core.List.{List, [], _∷_}
 use Prim.Native.Nat.{ℕ}
@@ -16,9 +16,9 @@ unfoldable pub every : (ℕ → Bool) → List ℕ → Bool
 every f [] = true
 every f (v ∷ values) = f v && every f values
 
--- 'Values in µg/L, 0 to 200,000'
+-- document 02 (i): 'Chart values are in tenths too, 0 to 2,000,000', tenths of a µg/L
 abbrev pub greatestValue : ℕ
-greatestValue = 200_000
+greatestValue = 2_000_000
 
 abbrev pub isValue : ℕ → Bool
 isValue v = leb v greatestValue

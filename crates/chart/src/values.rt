@@ -1,4 +1,4 @@
-// The values of a control chart (document 01, 'Charts'): how many it may have and how great they may be, refusals 9 and 10.
+// The values of a control chart (document 01, 'Charts', and document 02 (i)): how many it may have and how great they may be, refusals 9 and 10.
 use refusal::Refusal;
 ghost use mathlib.Core.Path.{_≡_};
 ghost use Rattle.chart.specs.Values.{allValues, countsFit, testOf, testedOutcome};
@@ -9,8 +9,8 @@ pub const MOST_SETUP: usize = 64;
 
 pub const MOST_LATER: usize = 64;
 
-// In µg/L.
-const GREATEST_VALUE: u32 = 200000;
+// In tenths of a µg/L.
+const GREATEST_VALUE: u32 = 2000000;
 
 // How the tests of a chart's values end: they are accepted, or the first test that refuses them.
 pub enum Tested {

@@ -6,7 +6,7 @@ use mathlib.Core.Bool.{Bool, true, false}
 use Prim.Native.Nat.{ℕ, _+_, _*_, _≤_, _<_}
 
 pub record Ranges : Type 0 where
-  -- the least and the greatest amount of each reading, in µg/L
+  -- the least and the greatest amount of each reading, in tenths of a µg/L
   pub least : ℕ → ℕ
   pub greatest : ℕ → ℕ
   -- the floor of hydrogen, in u, and whether hydrogen is its floor

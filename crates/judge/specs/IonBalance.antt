@@ -1,4 +1,4 @@
--- Document 01, 'Ion balance'.
+-- Document 01, 'Ion balance', and document 02 (i) for the DOC line.
 use mathlib.Core.Bool.{Bool, cond, _&&_, _||_}
 use mathlib.Core.List.{List}
 use Prim.Native.Nat.{ℕ, _+_, _-_, _*_, _≤_}
@@ -18,11 +18,11 @@ use Rattle.judge.specs.AtHydrogen.{Bounds}
 use Rattle.judge.specs.Corners.{fraction, Check, passesOf}
 use Rattle.judge.specs.Ranges.{rangesOf}
 
--- 'below 5,000 µg/L': 5 mg/L as an amount
+-- document 02 (i): 'The DOC line at 5 mg/L is 50,000', in tenths of a µg/L
 abbrev pub carbonLine : ℕ
 carbonLine = 5 * perMilligram
 
--- 'kinds 1 and 2, and kind 5 with DOC present and below 5,000 µg/L'
+-- 'kinds 1 and 2, and kind 5 with DOC present and below' that line
 unfoldable pub balanceApplies : ℕ → Bool → ℕ → Bool
 balanceApplies kind carbonPresent carbon = (eqb kind wetOnly || eqb kind bulk) || (eqb kind runoff && (carbonPresent && ltb carbon carbonLine))
 

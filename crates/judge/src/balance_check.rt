@@ -24,7 +24,7 @@ ghost use Rattle.judge.specs.ByValue.{balanceIn};
 ghost use Rattle.judge.specs.Classes.{percentOfMean};
 ghost use Rattle.judge.specs.IonBalance.{balanceApplies, balanceLimit, balanceWindow};
 
-// Dissolved organic carbon of 5 mg/L, in µg/L.
+// Dissolved organic carbon of 5 mg/L, as an amount.
 const CARBON_LINE: u64 = 5 * reading::PER_MILLIGRAM;
 
 // The check of a record, by its kind, its readings, its measured conductivity in tenths of µS/cm, and its solution. 'Not

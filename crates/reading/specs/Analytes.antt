@@ -14,7 +14,7 @@ present Missing = false
 present (Measured x) = true
 present (Below x) = true
 
--- the amount of a reading in µg/L, 0 where it has none
+-- the amount of a reading in tenths of a µg/L, 0 where it has none
 abbrev pub massIn : Outcome Amount → ℕ
 massIn (given Amount.missing) = 0
 massIn (given (Amount.mass m)) = m

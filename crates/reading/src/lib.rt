@@ -1,5 +1,5 @@
-// Readings of the analyser (document 01, 'A reading'): made from a value and its quantification limit, or from the
-// two words of a record; written back as words; and converted to an amount in whole µg/L.
+// Readings of the analyser (document 01, 'A reading', and document 02 (i)): made from a value and its quantification limit, or from the
+// two words of a record; written back as words; and converted to an amount in tenths of a µg/L.
 mod amounts;
 mod marks;
 mod ranges;
@@ -35,7 +35,7 @@ pub struct Words {
     pub bits: u32,
 }
 
-// A mass concentration in whole µg/L, held apart from charge and conductivity by its type.
+// A mass concentration in tenths of a µg/L, held apart from charge and conductivity by its type.
 pub struct Mass(pub u64);
 
 // A reading of a record with its amount, 0 where it is missing.
@@ -136,7 +136,7 @@ impl Reading {
         }
     }
 
-    // The amount of a reading in whole µg/L; of one below its limit, that of half the limit. A reading made by hand may
+    // The amount of a reading in tenths of a µg/L; of one below its limit, that of half the limit. A reading made by hand may
     // hold any float, so its range is tested first.
     pub fn amount(self) -> AmountResult
         ensures answer { λ r. ⌜ amountOutcome r ≡ amountOf self ⌝ }

@@ -13,7 +13,7 @@ ghost use Rattle.record.specs.Record.{ions};
 ghost use Rattle.solution.specs.Ions.{chargeUnit};
 ghost use Rattle.solution.specs.Steps.{Small, RowOf, Adds, IonSums, RatioOf};
 
-// Charge in 10^4 u for each µg/L: a column for the cations, one for the anions.
+// Charge in 10^3 u for each tenth of a µg/L: a column for the cations, one for the anions.
 const CATION: [u64; IONS] = [7139, 4990, 8229, 4350, 2558, 0, 0, 0];
 
 const ANION: [u64; IONS] = [0, 0, 0, 0, 0, 6237, 7139, 2821];
@@ -24,7 +24,7 @@ pub const HYDROGEN_CONDUCTANCE: u64 = 3500;
 
 pub const ALKALINITY_CONDUCTANCE: u64 = 445;
 // u in the unit of the charge columns.
-const CHARGE_UNIT: u64 = 10000;
+const CHARGE_UNIT: u64 = 1000;
 
 // A row of the table.
 struct Row {

@@ -1,4 +1,4 @@
-// What a water holds in solution by its analysis (document 01, 'Charge and conductance'): the charges and the conductivities of
+// What a water holds in solution by its analysis (document 01, 'Charge and conductance', and document 02 (i)): the charges and the conductivities of
 // the table's ten rows, added up to the sums that the checks compare.
 mod ions;
 mod ranges;

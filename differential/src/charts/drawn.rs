@@ -19,10 +19,11 @@ struct Setup {
 
 impl Chart {
     pub fn drawn(generator: &mut Generator) -> Chart {
-        let setup = match generator.below(8) {
+        let setup = match generator.below(9) {
             0 => flat_setup(generator),
             1 | 2 => scattered_setup(generator),
             3 => setup_of_halves(generator),
+            4 => setup_at_the_ends(generator),
             _ => exact_setup(generator),
         };
         let length = match generator.below(10) {
@@ -98,6 +99,18 @@ fn scattered_setup(generator: &mut Generator) -> Setup {
     }
 }
 
+/// All values at one end of their range, or some at either: with later values
+/// at the other end the rule's products are the greatest.
+fn setup_at_the_ends(generator: &mut Generator) -> Setup {
+    let (least, most) = generator.pick(&[(0, 0), (MOST_VALUE, MOST_VALUE), (0, MOST_VALUE)]);
+    let n = setup_count(generator);
+    Setup {
+        values: (0..n).map(|_| generator.pick(&[least, most])).collect(),
+        mean: (least + most) / 2,
+        deviation: MOST_VALUE / 2,
+    }
+}
+
 /// A mean that isn't whole: its two neighbours are above and below it.
 fn setup_of_halves(generator: &mut Generator) -> Setup {
     let mean = 10 + generator.of_any_size(MOST_VALUE - 20);
@@ -113,7 +126,7 @@ fn setup_of_halves(generator: &mut Generator) -> Setup {
 /// squares of a summing up to 2 × (n − 1) × e², the deviation is 2 × e exactly.
 fn exact_setup(generator: &mut Generator) -> Setup {
     let n = setup_count(generator);
-    let e = 1 + generator.of_any_size(2_000);
+    let e = 1 + generator.of_any_size(20_000);
     // No a is above 11, and later values reach out by 8 × e and one.
     let mean = generator.between(12 * e, MOST_VALUE - 12 * e);
     let mut values = Vec::new();
@@ -213,6 +226,31 @@ mod tests {
             let answer = signals(&setup.values, &[three_deviations, three_deviations + 1]);
             assert!(matches!(answer.as_deref(), Ok([0, 1 | 3])), "{answer:?}");
         }
+    }
+
+    /// Setups at one end of the range with a later value at the other, and
+    /// damaged charts that reach up to the greatest value or to one beyond it.
+    #[test]
+    fn the_ends_of_the_range_are_common() {
+        let mut generator = Generator::new(10);
+        let mut across = [0; 2];
+        let mut greatest = [0; 2];
+        for _ in 0..50_000 {
+            let mut chart = Chart::drawn(&mut generator);
+            for (times, (setup, later)) in across.iter_mut().zip([(0, MOST_VALUE), (MOST_VALUE, 0)])
+            {
+                let all = chart.setup.iter().all(|&value| value == setup);
+                *times += u32::from(all && chart.later.contains(&later));
+            }
+            chart.damage(&mut generator);
+            let values = [chart.setup, chart.later].concat();
+            let most = values.into_iter().max().unwrap_or(0);
+            for (times, value) in greatest.iter_mut().zip(MOST_VALUE..) {
+                *times += u32::from(most == value);
+            }
+        }
+        assert!(across.iter().all(|&times| times > 100), "{across:?}");
+        assert!(greatest.iter().all(|&times| times > 100), "{greatest:?}");
     }
 
     #[test]

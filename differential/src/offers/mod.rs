@@ -5,11 +5,12 @@ mod followed;
 mod handed_in;
 mod repeats;
 
-use crate::bottles::any_bottle;
+use crate::bottles::{any_bottle, trace};
 use crate::case::{Mismatch, Run};
+use crate::floats::any_reading;
 use crate::numbers::{
-    DOCKET_WORDS, FIRST_READING, KIND, MOST_DOCKET_ROOM, MOST_NUMBER, NUMBER, RECORD_WORDS,
-    SOIL_WATER,
+    CALCIUM, CHLORIDE, DOCKET_WORDS, FIRST_READING, KIND, MAGNESIUM, MOST_DOCKET_ROOM, MOST_NUMBER,
+    NUMBER, POTASSIUM, RECORD_WORDS, SODIUM, SOIL_WATER, SULPHATE,
 };
 use crate::on_the_limit::bottle_on_a_limit;
 use crate::random::Draw;
@@ -49,10 +50,22 @@ fn long_enough(generator: &mut Generator) -> usize {
 /// one closes its docket at once.
 fn first_bottle(generator: &mut Generator) -> Bottle {
     match generator.below(100) {
-        0..=39 => Bottle::doubtful(),
+        0..=24 => Bottle::doubtful(),
+        25..=39 => doubtful_traces(generator),
         40..=42 => bottle_on_a_limit(generator).unwrap_or_else(Bottle::doubtful),
         _ => any_bottle(generator),
     }
+}
+
+/// The doubtful bottle with traces of all ions but the two that its nitrogen
+/// check is about, so that it stays doubtful.
+fn doubtful_traces(generator: &mut Generator) -> Bottle {
+    let ions = [CALCIUM, MAGNESIUM, SODIUM, POTASSIUM, SULPHATE, CHLORIDE];
+    ions.into_iter().fold(Bottle::doubtful(), |bottle, ion| {
+        let amount = trace(generator);
+        let (mark, bits) = any_reading(generator, amount);
+        bottle.reading(ion, mark, bits)
+    })
 }
 
 /// A consistent bottle of the same sample: the printed one under its number
@@ -120,7 +133,9 @@ fn other_sample(generator: &mut Generator, bottle: &Bottle) -> Bottle {
 #[cfg(test)]
 mod tests {
     use super::*;
+    use crate::numbers::{IONS, MOST_TRACE};
     use reference::docket::PlainDocket;
+    use reference::record::Record;
 
     #[test]
     fn every_course_is_common() {
@@ -146,5 +161,33 @@ mod tests {
                 "{dockets:?}"
             );
         }
+    }
+
+    /// By how much ten times the difference of two amounts is above the larger:
+    /// 0 is a tenth exactly, up to 10 is one more.
+    fn beyond_a_tenth(first: u32, second: u32) -> i64 {
+        10 * i64::from(first.abs_diff(second)) - i64::from(first.max(second))
+    }
+
+    /// Repeats of traces that differ by a tenth exactly, and by one more than
+    /// agrees.
+    #[test]
+    fn traces_about_a_tenth_apart_are_common() {
+        let mut generator = Generator::new(14);
+        let (mut exact, mut one_more) = (0, 0);
+        for _ in 0..10_000 {
+            let offers = list(&mut generator);
+            let records: Vec<Record> = offers.iter().flat_map(|o| Record::read(o)).collect();
+            for pair in records.windows(2) {
+                let amounts = (0..IONS).map(|ion| (pair[0].amount(ion), pair[1].amount(ion)));
+                for (first, second) in amounts.filter_map(|(a, b)| Some((a?, b?))) {
+                    let beyond = beyond_a_tenth(first, second);
+                    let is_trace = (1..=MOST_TRACE).contains(&first.max(second));
+                    exact += u32::from(is_trace && beyond == 0);
+                    one_more += u32::from(is_trace && (1..=10).contains(&beyond));
+                }
+            }
+        }
+        assert!(exact > 200 && one_more > 500, "{exact} and {one_more}");
     }
 }

@@ -114,7 +114,7 @@ fn other_float(generator: &mut Generator, bottle: &Bottle, place: usize) -> Bott
     let (mark, bits) = bottle.mark_and_bits(place);
     let reading = Reading::from_words(mark, bits);
     let Some(amount) = reading.ok().and_then(Reading::amount) else {
-        return bottle.amount(place, generator.below(9_000));
+        return bottle.amount(place, generator.below(90_000));
     };
     let (first, last) = ends(amount);
     match generator.below(6) {

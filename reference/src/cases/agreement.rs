@@ -5,8 +5,9 @@ use super::floats::limit_of;
 use super::generator::Generator;
 use super::Cases;
 use crate::numbers::{
-    ALKALINITY, CALCIUM, CHLORIDE, CONDUCTIVITY, IONS, LEAST_LIMIT_BITS, LEAST_PH, MOST_ALKALINITY,
-    MOST_CONDUCTIVITY, MOST_PH, ORGANIC_CARBON, PH, READINGS, RECORD_WORDS, RUNOFF, SOIL_WATER,
+    ALKALINITY, CALCIUM, CHLORIDE, CONDUCTIVITY, IONS, LEAST_BELOW, LEAST_LIMIT_BITS, LEAST_PH,
+    MOST_ALKALINITY, MOST_AMOUNT, MOST_CONDUCTIVITY, MOST_PH, ORGANIC_CARBON, PH, POTASSIUM,
+    READINGS, RECORD_WORDS, RUNOFF, SOIL_WATER,
 };
 
 /// Asks both ways round.
@@ -23,6 +24,7 @@ fn compare_slices(cases: &mut Cases, first: &[u32], second: &[u32]) {
 pub fn all(cases: &mut Cases) {
     whole_words(cases);
     amounts(cases);
+    traces(cases);
     missing_and_below(cases);
     refused(cases);
     scattered(cases);
@@ -90,13 +92,45 @@ fn amounts(cases: &mut Cases) {
             );
         }
     }
-    for (first, second) in TENTHS {
+    let tenth_less = MOST_AMOUNT / 10 * 9;
+    let greatest = [tenth_less, tenth_less - 1].map(|less| (MOST_AMOUNT, less));
+    for (first, second) in TENTHS.into_iter().chain(greatest) {
         let [first, second] = [first, second].map(|amount| bottle.amount(CHLORIDE, amount));
         compare(cases, &first, &second);
     }
     // Other floats of the same amount agree as that amount does.
     let [first, second] = [0, 1].map(|bits| bottle.reading(CALCIUM, 1, bits));
     compare(cases, &first, &second);
+}
+
+/// Two amounts of a few µg/L, in tenths, and whether they agree.
+pub const TRACES: [(u32, u32, bool); 12] = [
+    // To whole µg/L they round alike, and yet they may differ.
+    (34, 31, true),
+    (34, 30, false),
+    (34, 25, false),
+    (14, 5, false),
+    // To whole µg/L they round apart, and yet they may agree.
+    (35, 34, true),
+    (26, 24, true),
+    (45, 44, true),
+    (38, 34, false),
+    // A tenth of the larger exactly, and one more.
+    (30, 27, true),
+    (30, 26, false),
+    (90, 81, true),
+    (90, 80, false),
+];
+
+/// Traces of potassium, measured both or the second as half a limit.
+fn traces(cases: &mut Cases) {
+    let bottle = Bottle::doubtful();
+    for (first, second, _) in TRACES {
+        let measured = bottle.amount(POTASSIUM, first);
+        compare(cases, &measured, &bottle.amount(POTASSIUM, second));
+        let below = bottle.below(POTASSIUM, limit_of(second));
+        compare(cases, &measured, &below);
+    }
 }
 
 fn missing_and_below(cases: &mut Cases) {
@@ -111,11 +145,10 @@ fn missing_and_below(cases: &mut Cases) {
         for amount in [1_000, 900, 899, 1_111, 1_112] {
             compare(cases, &measured, &bottle.below(place, limit_of(amount)));
         }
-        compare(
-            cases,
-            &bottle.below(place, LEAST_LIMIT_BITS),
-            &bottle.amount(place, 0),
-        );
+        let least = bottle.below(place, LEAST_LIMIT_BITS);
+        for amount in [0, LEAST_BELOW - 1, LEAST_BELOW, LEAST_BELOW + 1] {
+            compare(cases, &least, &bottle.amount(place, amount));
+        }
     }
 }
 

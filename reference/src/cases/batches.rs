@@ -1,6 +1,7 @@
 //! Call 12: batches.
 
 use super::bottle::{plausible, Bottle};
+use super::charts::BEYOND_WHOLE;
 use super::generator::Generator;
 use super::Cases;
 use crate::numbers::{
@@ -117,7 +118,7 @@ fn single_refusals(cases: &mut Cases) {
         add(cases, room, &batch(&[chart(element, &flat(), &[1])], &[]));
     }
     chart_counts(cases);
-    for value in [MOST_VALUE, MOST_VALUE + 1, u32::MAX] {
+    for value in [BEYOND_WHOLE, MOST_VALUE, MOST_VALUE + 1, u32::MAX] {
         let mut setup = flat();
         setup[LEAST_SETUP - 1] = value;
         add(cases, room, &batch(&[chart(3, &setup, &[])], &[]));

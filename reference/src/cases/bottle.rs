@@ -8,9 +8,9 @@ use crate::ions::{
 };
 use crate::numbers::{
     bits_of, mark_of, ALKALINITY, AMMONIUM, BULK, CHLORIDE, CONDUCTIVITY, CONDUCTIVITY_TENTH, IONS,
-    KIND, LEAST_PH, MOST_BELOW, MOST_CONDUCTIVITY, MOST_NUMBER, MOST_PH, NITRATE, NUMBER,
-    ORGANIC_CARBON, PH, READINGS, RECORD_WORDS, SODIUM, SOIL_WATER, THROUGHFALL, TOTAL_NITROGEN,
-    WET_ONLY,
+    KIND, LEAST_BELOW, LEAST_PH, MOST_BELOW, MOST_CONDUCTIVITY, MOST_NUMBER, MOST_PH, NITRATE,
+    NUMBER, ORGANIC_CARBON, PH, READINGS, RECORD_WORDS, SODIUM, SOIL_WATER, THROUGHFALL,
+    TOTAL_NITROGEN, WET_ONLY,
 };
 
 /// The words of a record, which its own tests may refuse.
@@ -58,7 +58,9 @@ impl Bottle {
     /// A throughfall bottle with less total nitrogen than nitrate and
     /// ammonium: never consistent, whatever else is changed in it.
     pub fn doubtful() -> Bottle {
-        let amounts = [800, 1_000, 400, 2_000, 1_500, 900, 700, 3_000, 1_000, 6_000];
+        let amounts = [
+            8_000, 10_000, 4_000, 20_000, 15_000, 9_000, 7_000, 30_000, 10_000, 60_000,
+        ];
         let mut bottle = Bottle::without_readings()
             .number(41)
             .kind(THROUGHFALL)
@@ -130,8 +132,8 @@ pub fn plausible(generator: &mut Generator) -> Bottle {
     for place in 0..READINGS {
         if generator.once_in(60) {
             bottle = bottle.missing(place);
-        } else if generator.once_in(25) && draft.amounts[place] > 0 {
-            bottle = bottle.below(place, limit_of(draft.amounts[place].min(MOST_BELOW - 1)));
+        } else if generator.once_in(25) && draft.amounts[place] >= LEAST_BELOW {
+            bottle = bottle.below(place, limit_of(draft.amounts[place].min(MOST_BELOW)));
         }
     }
     bottle
@@ -147,7 +149,7 @@ struct Draft {
 
 impl Draft {
     fn drawn(generator: &mut Generator) -> Draft {
-        const USUAL: [u32; IONS] = [800, 1_500, 500, 2_500, 1_200, 1_500, 900, 4_000];
+        const USUAL: [u32; IONS] = [8_000, 15_000, 5_000, 25_000, 12_000, 15_000, 9_000, 40_000];
         // Now rain, now throughfall, now runoff: from thin to thick.
         let strength = generator.pick(&[5, 20, 60, 100, 200]);
         let mut amounts = [0; READINGS];
@@ -155,8 +157,8 @@ impl Draft {
             *amount = generator.below(usual * strength / 100 + 1);
         }
         let nitrogen = amounts[AMMONIUM] + amounts[NITRATE];
-        amounts[TOTAL_NITROGEN] = nitrogen.saturating_sub(20) + generator.below(120);
-        amounts[ORGANIC_CARBON] = generator.below(9_000);
+        amounts[TOTAL_NITROGEN] = nitrogen.saturating_sub(200) + generator.below(1_200);
+        amounts[ORGANIC_CARBON] = generator.below(90_000);
         let ph = match generator.below(4) {
             0 => 100 * generator.between(4, 8),
             1 => generator.between(LEAST_PH, MOST_PH),

@@ -8,12 +8,17 @@ use crate::numbers::{LEAST_SETUP, MOST_LATER, MOST_SETUP, MOST_VALUE};
 const SETUP: [u32; LEAST_SETUP] = [1003, 997, 1003, 997, 1000, 1000, 1000, 1000, 1000, 1000];
 /// The same with deviations ten times as wide.
 pub const WIDE: [u32; LEAST_SETUP] = [1030, 970, 1030, 970, 1000, 1000, 1000, 1000, 1000, 1000];
+/// The greatest of the later values that go with `WIDE`.
+const TOP: u32 = 1061;
 /// Mean 1,000 and no variance.
 const FLAT: [u32; LEAST_SETUP] = [1000; LEAST_SETUP];
 /// Mean 100, a deviation of 1.49.
 const AROUND_HUNDRED: [u32; LEAST_SETUP] = [98, 99, 100, 101, 102, 98, 99, 100, 101, 102];
 /// Mean 100 and no variance.
 const ALL_HUNDRED: [u32; LEAST_SETUP] = [100; LEAST_SETUP];
+
+/// A value that is in its range, and would not be if values were whole µg/L.
+pub const BEYOND_WHOLE: u32 = MOST_VALUE / 10 + 1;
 
 /// A chart worked by hand: its setup values, its later values and their signal
 /// words.
@@ -48,6 +53,7 @@ pub fn all(cases: &mut Cases) {
     seven_on_one_side(cases);
     seven_in_one_direction(cases);
     worked(cases);
+    near_the_greatest(cases);
     for (_, later) in every_sum() {
         add(cases, &WIDE, &later);
         let mirrored: Vec<u32> = later.iter().map(|value| 2_000 - value).collect();
@@ -79,7 +85,14 @@ fn counts(cases: &mut Cases) {
 }
 
 fn values(cases: &mut Cases) {
-    for value in [0, MOST_VALUE - 1, MOST_VALUE, MOST_VALUE + 1, u32::MAX] {
+    for value in [
+        0,
+        BEYOND_WHOLE,
+        MOST_VALUE - 1,
+        MOST_VALUE,
+        MOST_VALUE + 1,
+        u32::MAX,
+    ] {
         for place in [0, LEAST_SETUP - 1] {
             let mut setup = SETUP;
             setup[place] = value;
@@ -93,6 +106,7 @@ fn values(cases: &mut Cases) {
     }
     add(cases, &[MOST_VALUE; MOST_SETUP], &[MOST_VALUE; MOST_LATER]);
     add(cases, &[MOST_VALUE; MOST_SETUP], &[0; MOST_LATER]);
+    add(cases, &[0; MOST_SETUP], &[MOST_VALUE; MOST_LATER]);
     let halves: Vec<u32> = [0, MOST_VALUE].repeat(MOST_SETUP / 2);
     add(cases, &halves, &halves);
 }
@@ -237,6 +251,28 @@ fn worked(cases: &mut Cases) {
         WITHOUT_VARIANCE,
     ] {
         add(cases, &setup, later);
+    }
+}
+
+/// Values of `WIDE` or that go with it, moved up so far that the greatest of
+/// them becomes the greatest there is. Signals stay what they were.
+pub fn moved_up(values: &[u32]) -> Vec<u32> {
+    let by = MOST_VALUE - TOP;
+    values.iter().map(|value| value + by).collect()
+}
+
+/// Charts moved up to the greatest value, and one stretched up to it: there a
+/// step of one is small against two or three deviations.
+fn near_the_greatest(cases: &mut Cases) {
+    for (_, later) in every_sum() {
+        add(cases, &moved_up(&WIDE), &moved_up(&later));
+    }
+    let stretch = MOST_VALUE / TOP;
+    let setup = WIDE.map(|value| stretch * value);
+    for value in [940, 960, 1040, 1060] {
+        let on = stretch * value;
+        add(cases, &setup, &[on - 1, on, on + 1]);
+        add(cases, &setup, &[on + 1, on, on - 1]);
     }
 }
 

@@ -1,6 +1,6 @@
 //! Floats found by search: by their bits, without floating-point arithmetic.
 
-use crate::numbers::{MOST_AMOUNT, MOST_BITS, PER_MILLIGRAM};
+use crate::numbers::{LEAST_LIMIT_BITS, MOST_AMOUNT, MOST_BITS, PER_MILLIGRAM};
 use crate::readings::Reading;
 
 /// A float's double has the next greater exponent: what is added to its bits.
@@ -27,7 +27,9 @@ pub fn least_float_of(amount: u32) -> u32 {
     from
 }
 
-/// A float in the midst of those with this amount; 0.0 for none.
+/// A float in the midst of those with this amount; 0.0 for none. Every amount
+/// has some: up to 200 mg/L floats are at most 2^−16 apart, and six such steps
+/// are less than a tenth of a µg/L.
 pub fn float_of(amount: u32) -> u32 {
     if amount == 0 {
         return 0;
@@ -36,9 +38,11 @@ pub fn float_of(amount: u32) -> u32 {
     first + (next - first) / 2
 }
 
-/// A quantification limit whose half has this amount.
+/// A quantification limit whose half has this amount, from `LEAST_BELOW` to
+/// `MOST_BELOW`. The double of a float with one of these two may lie beyond the
+/// ends of the limits, which are then the nearest limits with that amount.
 pub fn limit_of(amount: u32) -> u32 {
-    float_of(amount) + DOUBLE
+    (float_of(amount) + DOUBLE).clamp(LEAST_LIMIT_BITS, MOST_BITS)
 }
 
 /// The bits of numerator / 2^places, for a numerator of 1 to 2^24 − 1.
@@ -49,8 +53,8 @@ pub fn dyadic(numerator: u32, places: u32) -> u32 {
 }
 
 /// All floats up to 200.0 whose amount before rounding is a whole number and a
-/// half, found among the whole numbers k: (2k + 1) / 2,000 is a float's value
-/// where 2k + 1 is a multiple of 125, as 2,000 is 16 × 125.
+/// half, found among the whole numbers k: (2k + 1) / 20,000 is a float's value
+/// where 2k + 1 is a multiple of 625, as 20,000 is 32 × 625.
 pub fn ties() -> Vec<u32> {
     let places = (2 * PER_MILLIGRAM).trailing_zeros();
     let odd = (2 * PER_MILLIGRAM) >> places;
@@ -63,7 +67,11 @@ pub fn ties() -> Vec<u32> {
 #[cfg(test)]
 mod tests {
     use super::*;
-    use crate::numbers::{CARBON_LINE, MOST_BELOW, MOST_MILLIGRAMS};
+    use crate::numbers::{CARBON_LINE, LEAST_BELOW, MOST_BELOW, MOST_MILLIGRAMS};
+
+    fn below_amount(bits: u32) -> Option<u32> {
+        Reading::below(bits).ok().and_then(Reading::amount)
+    }
 
     #[test]
     fn searched_floats_have_their_amounts() {
@@ -71,28 +79,38 @@ mod tests {
             0,
             1,
             2,
-            62,
-            63,
-            999,
+            312,
+            313,
+            9_999,
             CARBON_LINE,
-            123_456,
+            1_234_567,
             MOST_AMOUNT - 1,
             MOST_AMOUNT,
         ] {
             assert_eq!(measured_amount(float_of(amount)), amount);
             assert_eq!(measured_amount(least_float_of(amount)), amount);
         }
-        for amount in [1, 63, CARBON_LINE, MOST_BELOW - 1] {
-            let below = Reading::below(limit_of(amount)).map(Reading::amount);
-            assert_eq!(below, Ok(Some(amount)));
+        for amount in [LEAST_BELOW, 313, CARBON_LINE, MOST_BELOW - 1, MOST_BELOW] {
+            assert_eq!(below_amount(limit_of(amount)), Some(amount));
+        }
+    }
+
+    #[test]
+    fn amounts_at_the_ends_have_a_float_and_a_limit() {
+        // Floats are the furthest apart at the top, limits end at the bottom.
+        for amount in MOST_AMOUNT - 1_000..=MOST_AMOUNT {
+            assert_eq!(measured_amount(float_of(amount)), amount);
+        }
+        for amount in LEAST_BELOW..1_000 {
+            assert_eq!(below_amount(limit_of(amount)), Some(amount));
         }
     }
 
     #[test]
     fn dyadic_floats_are_the_machine_s() {
-        assert_eq!(dyadic(1, 4), (1f32 / 16.0).to_bits());
-        assert_eq!(dyadic(3_199, 4), (3_199f32 / 16.0).to_bits());
+        assert_eq!(dyadic(1, 5), (1f32 / 32.0).to_bits());
+        assert_eq!(dyadic(6_399, 5), (6_399f32 / 32.0).to_bits());
         assert_eq!(dyadic(MOST_MILLIGRAMS, 0), MOST_BITS);
-        assert_eq!(ties().len(), 1_600);
+        assert_eq!(ties().len(), 3_200);
     }
 }

@@ -41,19 +41,19 @@ fn greatest_chart(generator: &mut Generator, element: u32) -> Vec<u32> {
             .map(|_| least + generator.below(spread))
             .collect()
     };
-    let setup = values(MOST_SETUP, 900, 201);
-    let mut later = values(MOST_LATER, 850, 301);
+    let setup = values(MOST_SETUP, 9_000, 2_001);
+    let mut later = values(MOST_LATER, 8_500, 3_001);
     if element == CALM {
         // Now a little above the mean, now a little below.
         later = (0..MOST_LATER as u32)
-            .map(|index| 980 + 40 * (index % 2))
+            .map(|index| 9_800 + 400 * (index % 2))
             .collect();
     } else if SIGNALLED.contains(&element) {
-        later[MOST_LATER - 1] = [1_300, 0, MOST_VALUE][element as usize % 3];
+        later[MOST_LATER - 1] = [13_000, 0, MOST_VALUE][element as usize % 3];
     } else {
         // A signal earlier on, and a quiet end: the last seven go up and down.
-        later[40] = 1_500;
-        let quiet = [990, 1_010, 985, 1_020, 995, 1_005, 998];
+        later[40] = 15_000;
+        let quiet = [9_900, 10_100, 9_850, 10_200, 9_950, 10_050, 9_980];
         later[MOST_LATER - quiet.len()..].copy_from_slice(&quiet);
     }
     chart(element, &setup, &later)

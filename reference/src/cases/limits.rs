@@ -70,17 +70,27 @@ fn classes(cases: &mut Cases) {
                 &bottle
                     .alkalinity(10 * alkalinity)
                     .ph(501)
-                    .amount(SODIUM, 2_000),
+                    .amount(SODIUM, 20_000),
             );
         }
     }
 }
 
-/// 2 × 4350 × 2,821 is 2821 × 8,700, and 2 × 4350 × 2,821 is 3 × 2821 × 2,900:
-/// the ratio of charges is 0.5 and 1.5 exactly.
+/// Sodium and chloride whose ratio of charges is 0.5 or 1.5 exactly:
+/// 2 × 4350 × 2,821 is 2821 × 8,700, and 2 × 4350 × 2,821 is 3 × 2821 × 2,900.
+/// The last two pairs are whole µg/L: in whole µg/L a step of one beside them
+/// wouldn't tell.
+const EXACT_RATIOS: [(u32, u32); 5] = [
+    (2_821, 8_700),
+    (2_821, 2_900),
+    (5_642, 17_400),
+    (28_210, 87_000),
+    (28_210, 29_000),
+];
+
 fn sodium_chloride(cases: &mut Cases) {
     for kind in KINDS {
-        for (sodium, chloride) in [(2_821, 8_700), (2_821, 2_900), (5_642, 17_400)] {
+        for (sodium, chloride) in EXACT_RATIOS {
             let bottle = Bottle::printed().kind(kind);
             for (sodium, chloride) in [
                 (sodium, chloride),
@@ -96,10 +106,12 @@ fn sodium_chloride(cases: &mut Cases) {
     }
 }
 
-/// Chloride that rounds to 0 or 1, with sodium, without, and missing.
+/// Chloride that rounds to 0 or 1, or to the last that whole µg/L would take
+/// for 0, with sodium, without, and missing; half of the least limit, with
+/// sodium on both sides of both ends of the ratio.
 fn little_chloride(cases: &mut Cases, kind: u32) {
     let one = least_float_of(1);
-    for bits in [0, 1, one - 1, one] {
+    for bits in [0, 1, one - 1, one, float_of(4)] {
         let bottle = Bottle::printed().kind(kind).reading(CHLORIDE, 1, bits);
         cases.judge(&bottle);
         cases.judge(&bottle.amount(SODIUM, 0));
@@ -111,12 +123,28 @@ fn little_chloride(cases: &mut Cases, kind: u32) {
         .below(CHLORIDE, LEAST_LIMIT_BITS);
     cases.judge(&below);
     cases.judge(&below.missing(SODIUM));
+    for sodium in [1, 2, 4, 5] {
+        cases.judge(&below.amount(SODIUM, sodium));
+    }
 }
+
+/// Nitrate and ammonium: none and next to none, that of the printed sample, on
+/// both sides of a tie, and the greatest that total nitrogen reaches. In whole
+/// µg/L twice 2,504 would be within with a tenth too little of total nitrogen,
+/// and twice 2,495 outside with enough of it.
+const NITROGEN: [(u32, u32); 7] = [
+    (0, 0),
+    (1, 0),
+    (2_500, 2_500),
+    (313, 312),
+    (2_504, 2_504),
+    (2_495, 2_495),
+    (MOST_AMOUNT / 2, MOST_AMOUNT / 2),
+];
 
 fn nitrogen(cases: &mut Cases) {
     for kind in KINDS {
-        let halves = (MOST_AMOUNT / 2, MOST_AMOUNT / 2);
-        for (nitrate, ammonium) in [(0, 0), (1, 0), (250, 250), (63, 62), halves] {
+        for (nitrate, ammonium) in NITROGEN {
             let bottle = Bottle::printed().kind(kind);
             let bottle = bottle.amount(NITRATE, nitrate).amount(AMMONIUM, ammonium);
             let sum = nitrate + ammonium;
@@ -131,10 +159,10 @@ fn nitrogen(cases: &mut Cases) {
 }
 
 /// Runoff's line, the amount on it and the one before, measured and as half a
-/// limit.
+/// limit; also an amount that whole µg/L would put on the line.
 fn organic_carbon(cases: &mut Cases) {
     let line = least_float_of(CARBON_LINE);
-    let before = CARBON_LINE - 1;
+    let (before, near) = (CARBON_LINE - 1, CARBON_LINE - 4);
     for kind in [BULK, RUNOFF, SOIL_WATER] {
         let bottle = Bottle::printed().kind(kind);
         for bits in [float_of(before), line - 1, line, float_of(CARBON_LINE), 0] {
@@ -143,6 +171,8 @@ fn organic_carbon(cases: &mut Cases) {
         for limit in [limit_of(before), line + DOUBLE - 1, line + DOUBLE] {
             cases.judge(&bottle.below(ORGANIC_CARBON, limit));
         }
+        cases.judge(&bottle.amount(ORGANIC_CARBON, near));
+        cases.judge(&bottle.below(ORGANIC_CARBON, limit_of(near)));
         for amount in [before, CARBON_LINE] {
             cases.judge(&bottle.amount(ORGANIC_CARBON, amount).missing(CHLORIDE));
         }

@@ -7,8 +7,8 @@ use super::undecided::undecided_conductivity;
 use super::Cases;
 use crate::numbers::{
     mark_of, AMMONIUM, CALCIUM, CHLORIDE, FIRST_READING, KIND, LEAST_PH, MOST_ALKALINITY,
-    MOST_NUMBER, NUMBER, ORGANIC_CARBON, RECORD_WORDS, SODIUM, SOIL_WATER, STEMFLOW, THROUGHFALL,
-    TOTAL_NITROGEN,
+    MOST_NUMBER, NUMBER, ORGANIC_CARBON, POTASSIUM, RECORD_WORDS, SODIUM, SOIL_WATER, STEMFLOW,
+    THROUGHFALL, TOTAL_NITROGEN,
 };
 
 pub fn all(cases: &mut Cases) {
@@ -42,7 +42,7 @@ fn add_slices(cases: &mut Cases, slices: &[impl AsRef<[u32]>]) {
 }
 
 /// Courses of a docket, a letter for each offer as in `bottle_of`.
-const COURSES: [&str; 40] = [
+const COURSES: [&str; 47] = [
     // Nothing, one, two or three that don't agree, and one too many.
     "", "a", "ab", "abc", "abcc",
     // Agreement with the one before; the third isn't compared with the first.
@@ -54,6 +54,8 @@ const COURSES: [&str; 40] = [
     // Missing, outside and undecided keep a record from being consistent, not
     // applicable doesn't.
     "mmg", "wmw", "nw", "nn", "mwm", "uvuu", "uu", "uvw", "vuu", "auu", "ur", "abuu",
+    // Traces of potassium: 3.4 and 3.5 µg/L agree, 3.0 agrees with neither.
+    "tp", "tq", "tqt", "tqp", "tqq", "qtp", "ptq",
 ];
 
 /// The bottles of the courses: all of the same number and kind but o, k, y, u
@@ -78,6 +80,9 @@ fn bottle_of(letter: char) -> Bottle {
         'y' => doubtful.number(42).alkalinity(MOST_ALKALINITY + 1),
         'r' => doubtful.reading(AMMONIUM, 3, 0),
         's' => doubtful.ph(520).reading(ORGANIC_CARBON, 0, 1),
+        't' => doubtful.amount(POTASSIUM, 34),
+        'p' => doubtful.amount(POTASSIUM, 35),
+        'q' => doubtful.amount(POTASSIUM, 30),
         // Undecided, and the same bottle with other chloride.
         'u' => undecided(),
         'v' => undecided().amount(CHLORIDE, 9),

@@ -1,16 +1,25 @@
 //! The input of `follow`: one bottle whose readings move until the third
-//! analysis agrees with the second.
+//! analysis agrees with the second: potassium at 3.4 and 3.5 µg/L, which whole
+//! µg/L would set apart.
 
 use super::bottle::Bottle;
 use crate::numbers::{
-    mark_of, CALCIUM, CHLORIDE, MOST_ALKALINITY, MOST_PH, SODIUM, STEMFLOW, WORD_BYTES,
+    mark_of, CALCIUM, CHLORIDE, MOST_ALKALINITY, MOST_PH, POTASSIUM, SODIUM, STEMFLOW, WORD_BYTES,
 };
 use crate::words::to_bytes;
 
 pub fn follow_input() -> Vec<u8> {
     let first = Bottle::doubtful();
-    let second = first.ph(531).conductivity(352).amount(CHLORIDE, 2_480);
-    let third = second.ph(527).amount(CALCIUM, 1_071).amount(SODIUM, 1_880);
+    let second = first
+        .ph(531)
+        .conductivity(352)
+        .amount(CHLORIDE, 24_800)
+        .amount(POTASSIUM, 34);
+    let third = second
+        .ph(527)
+        .amount(CALCIUM, 10_710)
+        .amount(SODIUM, 18_800)
+        .amount(POTASSIUM, 35);
     let offers = [
         first.ph(MOST_PH + 1),
         first.clone(),

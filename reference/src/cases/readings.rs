@@ -3,12 +3,12 @@
 use super::floats::{least_float_of, ties, DOUBLE};
 use super::generator::Generator;
 use super::Cases;
-use crate::numbers::{LEAST_LIMIT_BITS, MOST_AMOUNT, MOST_BITS};
+use crate::numbers::{LEAST_LIMIT_BITS, MOST_AMOUNT, MOST_BELOW, MOST_BITS};
 
 const SIGN: u32 = 0x8000_0000;
 
 /// Bit patterns at which something ends.
-pub const EDGES: [u32; 34] = [
+pub const EDGES: [u32; 38] = [
     0,
     1,
     2,
@@ -19,9 +19,13 @@ pub const EDGES: [u32; 34] = [
     LEAST_LIMIT_BITS - 1,
     LEAST_LIMIT_BITS,
     LEAST_LIMIT_BITS + 1,
+    0x3CFF_FFFF,
+    0x3D00_0000, // 1/32, the least float whose amount is a tie
+    0x3D00_0001,
     0x3D7F_FFFF,
     0x3D80_0000, // 1/16
     0x3D80_0001,
+    0x3E00_0000, // 1/8, twice 1/16
     0x3F80_0000, // 1
     0x4120_0000, // 10
     MOST_BITS - 1,
@@ -83,10 +87,11 @@ fn analyses_about_their_limits(cases: &mut Cases) {
     }
 }
 
-/// Floats whose thousandfold is a whole number and a half, and their
-/// neighbours; limits whose half is such a float.
+/// Floats whose amount before rounding is a whole number and a half, and their
+/// neighbours; limits whose half is such a float. One of every three ties is
+/// taken, so that even and odd whole numbers are among them.
 fn amounts_at_ties(cases: &mut Cases) {
-    for tie in ties().into_iter().step_by(2) {
+    for tie in ties().into_iter().step_by(3) {
         for bits in [tie - 1, tie, tie + 1] {
             cases.add(4, &[1, bits]);
         }
@@ -99,19 +104,31 @@ fn amounts_at_ties(cases: &mut Cases) {
     }
 }
 
-/// The last float of an amount and the first of the next one.
+/// The steps of all traces up to 5 µg/L, of the greatest amounts, measured and
+/// below, and of amounts between these.
 fn amounts_at_steps(cases: &mut Cases) {
+    let traces = 1..=50;
+    let greatest = [MOST_BELOW - 1, MOST_BELOW, MOST_AMOUNT - 1, MOST_AMOUNT];
+    for amount in traces.chain(greatest) {
+        step(cases, amount);
+    }
     let mut generator = Generator::new(102);
     for _ in 0..600 {
         let most = generator.pick(&[10, 1_000, 10_000, MOST_AMOUNT]);
-        let first = least_float_of(generator.between(1, most));
-        for bits in [first - 1, first] {
-            cases.add(4, &[1, bits]);
-        }
-        if first < MOST_BITS - DOUBLE {
-            for limit in [first + DOUBLE - 1, first + DOUBLE] {
-                cases.add(4, &[2, limit]);
-            }
+        step(cases, generator.between(1, most));
+    }
+}
+
+/// The last float of the amount before this one and the first of this one; the
+/// same with limits and their halves.
+fn step(cases: &mut Cases, amount: u32) {
+    let first = least_float_of(amount);
+    for bits in [first - 1, first] {
+        cases.add(4, &[1, bits]);
+    }
+    if first < MOST_BITS - DOUBLE {
+        for limit in [first + DOUBLE - 1, first + DOUBLE] {
+            cases.add(4, &[2, limit]);
         }
     }
 }

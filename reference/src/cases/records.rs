@@ -155,7 +155,7 @@ fn ends_of_ranges(cases: &mut Cases) {
 /// For each kind: nothing missing, each reading missing, each pair missing.
 fn missing_readings(cases: &mut Cases) {
     for kind in KINDS {
-        let whole = Bottle::printed().kind(kind).amount(ORGANIC_CARBON, 3_000);
+        let whole = Bottle::printed().kind(kind).amount(ORGANIC_CARBON, 30_000);
         cases.judge(&whole);
         for first in 0..READINGS {
             for second in first..READINGS {
@@ -170,9 +170,14 @@ fn missing_readings(cases: &mut Cases) {
 /// A below reading counts as half its limit.
 fn below_readings(cases: &mut Cases) {
     for kind in KINDS {
-        let whole = Bottle::printed().kind(kind).amount(ORGANIC_CARBON, 3_000);
+        let whole = Bottle::printed().kind(kind).amount(ORGANIC_CARBON, 30_000);
         for place in 0..READINGS {
-            for limit in [LEAST_LIMIT_BITS, float_of(500), limit_of(500), MOST_BITS] {
+            for limit in [
+                LEAST_LIMIT_BITS,
+                float_of(5_000),
+                limit_of(5_000),
+                MOST_BITS,
+            ] {
                 cases.judge(&whole.below(place, limit));
             }
         }

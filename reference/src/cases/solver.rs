@@ -3,14 +3,15 @@
 //!
 //! Each of the two inequalities holds from a least to a greatest hydrogen. An
 //! end of that span is always `unit × N / divisor` u with a whole number N, as
-//! all charges but hydrogen's are multiples of 10^4 u. The searches below look
+//! all charges but hydrogen's are multiples of 10^3 u. The searches below look
 //! for amounts and an alkalinity that give a wanted N.
 
 use super::bottle::Bottle;
 use super::generator::Generator;
-use crate::ions::{ALKALINITY_CONDUCTANCE, ANIONS, CATIONS, TABLE};
+use crate::ions::{ALKALINITY_CONDUCTANCE, ANIONS, CATIONS, HYDROGEN_CONDUCTANCE, TABLE};
 use crate::numbers::{
-    ALKALINITY_CHARGE, AMOUNT_CHARGE, CHLORIDE, IONS, MOST_ALKALINITY, MOST_AMOUNT, POTASSIUM,
+    ALKALINITY_CHARGE, AMOUNT_CHARGE, CHLORIDE, CONDUCTIVITY_TENTH, IONS, MOST_ALKALINITY,
+    MOST_AMOUNT, POTASSIUM,
 };
 
 /// An end of the span of hydrogen for which an inequality holds.
@@ -35,8 +36,8 @@ impl Bound {
     pub fn unit_and_divisor(self) -> (i128, i128) {
         match self {
             Bound::Balance(tenths, end) => (AMOUNT_CHARGE, balance_weights(tenths, end).1),
-            // 10^6 × N / 350,000
-            Bound::Conductivity(..) => (20, 7),
+            // 10^5 × N / 350,000 without the common factor of 100: 2 × N / 7
+            Bound::Conductivity(..) => (AMOUNT_CHARGE, HYDROGEN_CONDUCTANCE),
         }
     }
 
@@ -44,6 +45,12 @@ impl Bound {
     pub fn last_up_to(self, hydrogen: i128) -> i128 {
         let (unit, divisor) = self.unit_and_divisor();
         (hydrogen * divisor).div_euclid(unit)
+    }
+
+    /// Whether the end can be this whole hydrogen.
+    pub fn reaches(self, hydrogen: i128) -> bool {
+        let (unit, divisor) = self.unit_and_divisor();
+        (hydrogen * divisor) % unit == 0
     }
 
     /// Whether the end for N lies strictly between two whole numbers.
@@ -78,7 +85,7 @@ impl Ions {
     }
 }
 
-/// The weights of An and of the other cations in N, both in units of 10^4 u:
+/// The weights of An and of the other cations in N, both in units of 10^3 u:
 /// N = weight × An − other weight × cations, and the other weight is the
 /// divisor, too. With L = 20 the span goes from (9 An − 11 C) / 11 to
 /// (11 An − 9 C) / 9; with L = 10 from (19 An − 21 C) / 21 to (21 An − 19 C) / 19.
@@ -103,7 +110,7 @@ fn balance_ions(generator: &mut Generator, tenths: u32, end: End, n: i128) -> Op
     for _ in 0..10_000 {
         let mut amounts = [0; IONS];
         for amount in &mut amounts[CATIONS] {
-            *amount = generator.below(12_000);
+            *amount = generator.below(120_000);
         }
         let weighed = n + cation_weight * charges(&amounts, CATIONS);
         if weighed >= 0 && weighed % anion_weight == 0 {
@@ -115,29 +122,26 @@ fn balance_ions(generator: &mut Generator, tenths: u32, end: End, n: i128) -> Op
     None
 }
 
-/// A tenth of a µeq/L in the unit of the ions' charges, 10^4 u.
+/// A tenth of a µeq/L in the unit of the ions' charges, 10^3 u.
 pub const TENTH_CHARGES: i128 = ALKALINITY_CHARGE / AMOUNT_CHARGE;
 
 /// Draws sulphate and nitrate, then searches the chloride that leaves a whole
 /// number of tenths of µeq/L to alkalinity.
 fn anions_of(generator: &mut Generator, mut amounts: [u32; IONS], anions: i128) -> Option<Ions> {
     for amount in &mut amounts[ANIONS] {
-        *amount = generator.below(6_000);
+        *amount = generator.below(60_000);
     }
     amounts[CHLORIDE] = 0;
     let rest = anions - charges(&amounts, ANIONS);
-    let left = |chloride: i128| rest - chloride * TABLE[CHLORIDE].factor;
-    let fits = |&chloride: &i128| left(chloride) >= 0 && left(chloride) % TENTH_CHARGES == 0;
-    let chloride = (0..10_000).find(fits)?;
-    amounts[CHLORIDE] = chloride as u32;
-    let alkalinity = u32::try_from(left(chloride) / TENTH_CHARGES).ok()?;
+    let (chloride, alkalinity) = split(rest, TABLE[CHLORIDE].factor, TENTH_CHARGES)?;
+    amounts[CHLORIDE] = chloride;
     (alkalinity <= MOST_ALKALINITY).then_some(Ions {
         amounts,
         alkalinity,
     })
 }
 
-/// What one µg/L of an ion adds, in units of 10^4 × 10^−13 µS/cm.
+/// What one tenth of a µg/L of an ion adds, in units of 10^3 × 10^−13 µS/cm.
 pub const fn conducted(ion: usize) -> i128 {
     TABLE[ion].factor * TABLE[ion].conductance
 }
@@ -145,8 +149,9 @@ pub const fn conducted(ion: usize) -> i128 {
 /// What one tenth of a µeq/L of alkalinity adds, in the same units.
 pub const CONDUCTED_BY_ALKALINITY: i128 = ALKALINITY_CONDUCTANCE * TENTH_CHARGES;
 
-/// N is (100 ± M) × CM − 100 × R in units of 10^6 × 10^−13 µS/cm, so the parts
-/// R of the ions and of alkalinity must sum up to (100 ± M) × tenths × 10^6 − N.
+/// N is (100 ± M) × CM − 100 × R in units of 10^5 × 10^−13 µS/cm, so the parts
+/// R of the ions and of alkalinity must sum up to (100 ± M) × CM − N with CM in
+/// those units, R in units of 10^3 × 10^−13 µS/cm.
 pub fn sum_conducted(tenths: u32, end: End, n: i128) -> i128 {
     let m = match tenths {
         0..=100 => 30,
@@ -157,7 +162,8 @@ pub fn sum_conducted(tenths: u32, end: End, n: i128) -> i128 {
         End::Least => 100 - m,
         End::Greatest => 100 + m,
     };
-    percent * i128::from(tenths) * 1_000_000 - n
+    let measured = i128::from(tenths) * CONDUCTIVITY_TENTH / (100 * AMOUNT_CHARGE);
+    percent * measured - n
 }
 
 fn conducting_ions(generator: &mut Generator, tenths: u32, end: End, n: i128) -> Option<Ions> {
@@ -186,8 +192,9 @@ fn ions_conducting(generator: &mut Generator, sum: i128) -> Option<Ions> {
     })
 }
 
-/// The first two amounts with first × a + second × b = rest. The remainder of
-/// what is left by b is carried along, so that no step has to divide.
+/// The first two whole numbers up to the greatest amount with
+/// first × a + second × b = rest. The remainder of what is left by b is carried
+/// along, so that no step has to divide.
 fn split(rest: i128, a: i128, b: i128) -> Option<(u32, u32)> {
     if rest < 0 {
         return None;

@@ -9,9 +9,7 @@ use super::generator::Generator;
 use super::solver::{Bound, End, ENDS};
 use super::Cases;
 use crate::hydrogen::Ph;
-use crate::numbers::{
-    AMOUNT_CHARGE, CARBON_LINE, LEAST_PH, MOST_PH, ORGANIC_CARBON, RUNOFF, SOIL_WATER,
-};
+use crate::numbers::{CARBON_LINE, LEAST_PH, MOST_PH, ORGANIC_CARBON, RUNOFF, SOIL_WATER};
 
 pub fn all(cases: &mut Cases) {
     balance(cases);
@@ -35,8 +33,7 @@ fn before_in_and_after(
     ph: (u32, i128),
 ) {
     let (p, h) = ph;
-    let last = bound.last_up_to(h);
-    for n in [last - 1, last, last + 1, last + 2] {
+    for n in bound.last_up_to(h) - 1..=bound.last_up_to(h + 1) + 1 {
         if let Some(bottle) = bound.bottle(generator, p, n) {
             cases.judge(&bottle);
             let runoff = bottle.kind(RUNOFF);
@@ -45,8 +42,9 @@ fn before_in_and_after(
     }
 }
 
-/// For the ion balance an end is a multiple of 10^4 divided by 9, 11, 19 or 21:
-/// it falls between h and h + 1 at a handful of p alone.
+/// For the ion balance an end is a multiple of 10^3 divided by 9, 11, 19 or 21:
+/// it falls between h and h + 1 at 5 to 13 p, by the divisor, and on neither, as
+/// no such floor ends in 000 or 999.
 fn balance(cases: &mut Cases) {
     let mut generator = Generator::new(401);
     for (p, h) in broken_hydrogen() {
@@ -54,9 +52,8 @@ fn balance(cases: &mut Cases) {
             for end in ENDS {
                 let bound = Bound::Balance(tenths, end);
                 let possible = bound.is_between(bound.last_up_to(h) + 1, h);
-                let on_an_end = h % AMOUNT_CHARGE == 0 || (h + 1) % AMOUNT_CHARGE == 0;
                 let now_and_then = p % 97 == 0;
-                if possible || on_an_end || now_and_then {
+                if possible || now_and_then {
                     before_in_and_after(cases, &mut generator, bound, (p, h));
                 }
             }
@@ -64,19 +61,14 @@ fn balance(cases: &mut Cases) {
     }
 }
 
-/// For conductivity an end is 20 × N / 7: between h and h + 1 it falls often,
-/// and at p whose h or h + 1 is a multiple of 20 it falls on that.
+/// For conductivity an end is 2 × N / 7: three of them fall between any h and
+/// h + 1, and one on h or on h + 1, whichever is even.
 fn conductivity(cases: &mut Cases) {
     let mut generator = Generator::new(402);
-    let possible: [fn(i128) -> bool; 3] = [
-        |h| h % 20 == 0,
-        |h| (h + 1) % 20 == 0,
-        |h| 7 * h / 20 != (7 * h + 6) / 20,
-    ];
-    for (index, possible) in possible.into_iter().enumerate() {
+    for odd in [0, 1] {
         // More acid rain than this has more conductivity than is measured here.
-        let all = broken_hydrogen().filter(|(p, h)| *p > 500 && possible(*h));
-        let chosen = all.step_by([8, 8, 30][index]);
+        let all = broken_hydrogen().filter(|(p, h)| *p > 500 && h % 2 == odd);
+        let chosen = all.step_by(30);
         for (ph, tenths) in chosen.zip([100, 101, 200, 201, 900].into_iter().cycle()) {
             for end in ENDS {
                 let bound = Bound::Conductivity(tenths, end);
@@ -104,7 +96,6 @@ fn first_undecided(bound: Bound) -> Option<Bottle> {
 /// A bottle of bulk water with an undecided ion balance.
 pub fn undecided_balance() -> Option<Bottle> {
     first_undecided(Bound::Balance(201, End::Greatest))
-        .or_else(|| first_undecided(Bound::Balance(201, End::Least)))
 }
 
 /// A bottle of soil water with undecided conductivity, and nothing else that

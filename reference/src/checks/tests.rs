@@ -75,7 +75,9 @@ fn runoff_needs_little_organic_carbon() {
     assert_eq!(balance(&carbon(CARBON_LINE)), 0);
     let ten = 10f32.to_bits();
     assert_eq!(balance(&runoff.below(ORGANIC_CARBON, ten)), 0);
-    assert_eq!(balance(&runoff.below(ORGANIC_CARBON, ten - 2_000)), 1);
+    // Half of these limits is 49,999.504 and 49,999.499 tenths of a µg/L.
+    assert_eq!(balance(&runoff.below(ORGANIC_CARBON, ten - 104)), 0);
+    assert_eq!(balance(&runoff.below(ORGANIC_CARBON, ten - 105)), 1);
 }
 
 #[test]

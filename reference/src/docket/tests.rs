@@ -1,8 +1,9 @@
 use super::*;
+use crate::cases::agreement::TRACES;
 use crate::cases::bottle::Bottle;
 use crate::cases::generator::Generator;
 use crate::cases::offers::scattered_list;
-use crate::numbers::{BULK, CHLORIDE, LEAST_PH, ORGANIC_CARBON, TOTAL_NITROGEN};
+use crate::numbers::{BULK, CHLORIDE, LEAST_PH, ORGANIC_CARBON, POTASSIUM, TOTAL_NITROGEN};
 
 /// A bottle with too little total nitrogen, so that it is never consistent.
 fn doubtful() -> Bottle {
@@ -38,6 +39,14 @@ fn agreement_reaches_to_a_tenth_of_the_larger() {
 }
 
 #[test]
+fn traces_agree_by_tenths_of_a_microgram() {
+    for (first, second, agree) in TRACES {
+        let [one, other] = [first, second].map(|amount| doubtful().amount(POTASSIUM, amount));
+        assert_eq!(bottles_agree(&one, &other), agree, "{first} and {second}");
+    }
+}
+
+#[test]
 fn missing_agrees_only_with_missing() {
     let missing = doubtful().missing(CHLORIDE);
     assert!(bottles_agree(&missing, &missing));
@@ -48,7 +57,7 @@ fn missing_agrees_only_with_missing() {
 fn nitrogen_and_carbon_are_not_compared() {
     let other = doubtful()
         .missing(TOTAL_NITROGEN)
-        .amount(ORGANIC_CARBON, 9_000);
+        .amount(ORGANIC_CARBON, 90_000);
     assert!(bottles_agree(&doubtful(), &other));
 }
 
