@@ -174,7 +174,9 @@ impl Reading {
 #[cfg(test)]
 mod tests {
     use super::*;
-    use crate::numbers::{LEAST_BELOW, LEAST_LIMIT_BITS, MOST_AMOUNT, MOST_BELOW, MOST_BITS};
+    use crate::numbers::{
+        LEAST_BELOW, LEAST_LIMIT_BITS, MOST_AMOUNT, MOST_BELOW, MOST_BITS, MOST_MILLIGRAMS,
+    };
 
     fn measured_amount(bits: u32) -> Result<Option<u32>, Refusal> {
         Reading::measured(bits).map(Reading::amount)
@@ -195,28 +197,28 @@ mod tests {
         assert_eq!(measured_amount(0x3D00_0001), Ok(Some(313)));
     }
 
-    #[test]
-    fn every_tie_goes_up() {
-        // 10,000 × j/32 is a whole number and a half for every odd j.
-        for j in (1..6_400u32).step_by(2) {
-            let tie = (j as f32 / 32.0).to_bits();
+    /// j / parts mg/L for every odd j up to 200 mg/L: floats whose amount is a
+    /// tie between whole numbers, 625 × j / 2.
+    fn ties_go_up(amount: fn(u32) -> Result<Option<u32>, Refusal>, parts: u32) {
+        for j in (1..MOST_MILLIGRAMS * parts).step_by(2) {
+            let tie = (j as f32 / parts as f32).to_bits();
             let up = (625 * j).div_ceil(2);
-            assert_eq!(measured_amount(tie), Ok(Some(up)));
-            assert_eq!(measured_amount(tie - 1), Ok(Some(up - 1)));
-            assert_eq!(measured_amount(tie + 1), Ok(Some(up)));
+            assert_eq!(amount(tie), Ok(Some(up)));
+            assert_eq!(amount(tie - 1), Ok(Some(up - 1)));
+            assert_eq!(amount(tie + 1), Ok(Some(up)));
         }
     }
 
     #[test]
+    fn every_tie_goes_up() {
+        // 10,000 / 32 is 625 / 2.
+        ties_go_up(measured_amount, 32);
+    }
+
+    #[test]
     fn half_a_limit_is_rounded_once() {
-        // Half of j/16 is j/32, a tie for every odd j.
-        for j in (1..3_200u32).step_by(2) {
-            let limit = (j as f32 / 16.0).to_bits();
-            let up = (625 * j).div_ceil(2);
-            assert_eq!(below_amount(limit), Ok(Some(up)));
-            assert_eq!(below_amount(limit - 1), Ok(Some(up - 1)));
-            assert_eq!(below_amount(limit + 1), Ok(Some(up)));
-        }
+        // Half of j/16 is j/32.
+        ties_go_up(below_amount, 16);
         // Half of 312.6 tenths is 156.3; rounded to 313 first, it would be a tie.
         let limit = 0.031_26f32.to_bits();
         assert_eq!(measured_amount(limit), Ok(Some(313)));
