@@ -4,6 +4,7 @@
  *
  *   rt staticlib analyser && cc -Iinclude differential/header.c target/staticlib/libanalyser.a -o target/header && target/header
  */
+#include <inttypes.h>
 #include <stdio.h>
 #include <string.h>
 
@@ -40,7 +41,7 @@ static struct record sample(uint32_t ph, uint32_t conductivity, uint32_t alkalin
 {
     struct record record;
     memset(&record, 0, sizeof record);
-    record.words[PELTQUARRY_RECORD_NUMBER] = 7;
+    record.words[PELTQUARRY_RECORD_NUMBER_LOW] = 7;
     record.words[PELTQUARRY_RECORD_KIND] = PELTQUARRY_BULK_OPEN_FIELD;
     record.words[PELTQUARRY_RECORD_PH] = ph;
     record.words[PELTQUARRY_RECORD_CONDUCTIVITY] = conductivity;
@@ -61,6 +62,13 @@ static struct record printed(void)
 static struct record with(struct record record, size_t word, uint32_t value)
 {
     record.words[word] = value;
+    return record;
+}
+
+static struct record numbered(struct record record, uint64_t number)
+{
+    record.words[PELTQUARRY_RECORD_NUMBER_HIGH] = PELTQUARRY_HIGH_WORD(number);
+    record.words[PELTQUARRY_RECORD_NUMBER_LOW] = PELTQUARRY_LOW_WORD(number);
     return record;
 }
 
@@ -106,9 +114,9 @@ static void fields_of_a_record(void)
         uint32_t value;
         uint32_t code;
     } fields[] = {
-        {"number 0", PELTQUARRY_RECORD_NUMBER, 0, PELTQUARRY_REFUSED_SAMPLE_NUMBER},
-        {"the greatest number", PELTQUARRY_RECORD_NUMBER, PELTQUARRY_MOST_NUMBER, PELTQUARRY_DONE},
-        {"a greater number", PELTQUARRY_RECORD_NUMBER, PELTQUARRY_MOST_NUMBER + 1, PELTQUARRY_REFUSED_SAMPLE_NUMBER},
+        {"too great a high word", PELTQUARRY_RECORD_NUMBER_HIGH, UINT32_MAX, PELTQUARRY_REFUSED_SAMPLE_NUMBER},
+        {"number 0", PELTQUARRY_RECORD_NUMBER_LOW, 0, PELTQUARRY_REFUSED_SAMPLE_NUMBER},
+        {"the greatest low word", PELTQUARRY_RECORD_NUMBER_LOW, UINT32_MAX, PELTQUARRY_DONE},
         {"a kind before the first", PELTQUARRY_RECORD_KIND, PELTQUARRY_WET_ONLY - 1, PELTQUARRY_REFUSED_KIND},
         {"a kind after the last", PELTQUARRY_RECORD_KIND, PELTQUARRY_SOIL_WATER + 1, PELTQUARRY_REFUSED_KIND},
         {"pH 0", PELTQUARRY_RECORD_PH, 0, PELTQUARRY_REFUSED_PH},
@@ -124,6 +132,27 @@ static void fields_of_a_record(void)
         hold("a mark that is none", PELTQUARRY_REFUSED_READING, judged(mark, PELTQUARRY_RECORD_WORDS));
         const struct record bits = with(without(printed(), place), PELTQUARRY_READING_BITS(place), 1);
         hold("missing with bits", PELTQUARRY_REFUSED_READING, judged(bits, PELTQUARRY_RECORD_WORDS));
+    }
+}
+
+/* The number is judged whole: its ends, and two words of which one order is taken and the other refused. */
+static void numbers(void)
+{
+    const struct {
+        const char *what;
+        uint64_t number;
+        uint32_t code;
+    } numbers[] = {
+        {"number 1", 1, PELTQUARRY_DONE},
+        {"a low word of 0", PELTQUARRY_NUMBER(1, 0), PELTQUARRY_DONE},
+        {"a high word of 1,000,000", PELTQUARRY_NUMBER(1000000, 1), PELTQUARRY_REFUSED_SAMPLE_NUMBER},
+        {"a low word of 1,000,000", PELTQUARRY_NUMBER(1, 1000000), PELTQUARRY_DONE},
+        {"the greatest number", PELTQUARRY_MOST_NUMBER, PELTQUARRY_DONE},
+        {"a greater number", PELTQUARRY_MOST_NUMBER + 1, PELTQUARRY_REFUSED_SAMPLE_NUMBER},
+        {"the greatest words", UINT64_MAX, PELTQUARRY_REFUSED_SAMPLE_NUMBER},
+    };
+    for (size_t i = 0; i < sizeof numbers / sizeof numbers[0]; i++) {
+        hold(numbers[i].what, numbers[i].code, judged(numbered(printed(), numbers[i].number), PELTQUARRY_RECORD_WORDS));
     }
 }
 
@@ -260,8 +289,10 @@ static void dockets(void)
     hold_offer("closed", docket, good, PELTQUARRY_REFUSED_DOCKET_CLOSED, PELTQUARRY_CONSISTENT, 1);
     fresh(docket);
     hold_offer("open", docket, doubtful, PELTQUARRY_DONE, PELTQUARRY_OPEN, 1);
-    const struct record number = with(doubtful, PELTQUARRY_RECORD_NUMBER, 8);
-    hold_offer("another number", docket, number, PELTQUARRY_REFUSED_OTHER_SAMPLE, PELTQUARRY_OPEN, 1);
+    const struct record low = with(doubtful, PELTQUARRY_RECORD_NUMBER_LOW, 8);
+    hold_offer("another low word", docket, low, PELTQUARRY_REFUSED_OTHER_SAMPLE, PELTQUARRY_OPEN, 1);
+    const struct record high = with(doubtful, PELTQUARRY_RECORD_NUMBER_HIGH, 8);
+    hold_offer("another high word", docket, high, PELTQUARRY_REFUSED_OTHER_SAMPLE, PELTQUARRY_OPEN, 1);
     const struct record kind = with(doubtful, PELTQUARRY_RECORD_KIND, PELTQUARRY_WET_ONLY);
     hold_offer("another kind", docket, kind, PELTQUARRY_REFUSED_OTHER_SAMPLE, PELTQUARRY_OPEN, 1);
     hold_offer("confirmed", docket, doubtful, PELTQUARRY_DONE, PELTQUARRY_CONFIRMED, 2);
@@ -337,10 +368,11 @@ static uint32_t answered(size_t length, size_t room)
     return peltquarry_batch(batch, length, answer, room);
 }
 
-static void hold_row(const char *what, size_t row, uint32_t number, uint32_t verdict, uint32_t flag)
+static void hold_row(const char *what, size_t row, uint64_t number, uint32_t verdict, uint32_t flag)
 {
     const uint32_t *words = answer + 1 + row * PELTQUARRY_ROW_WORDS;
-    hold(what, number, words[PELTQUARRY_ROW_NUMBER]);
+    hold(what, PELTQUARRY_HIGH_WORD(number), words[PELTQUARRY_ROW_NUMBER_HIGH]);
+    hold(what, PELTQUARRY_LOW_WORD(number), words[PELTQUARRY_ROW_NUMBER_LOW]);
     for (size_t check = 0; check < PELTQUARRY_VERDICT_WORDS; check++) {
         hold(what, verdict, words[PELTQUARRY_ROW_VERDICTS + check]);
     }
@@ -350,7 +382,7 @@ static void hold_row(const char *what, size_t row, uint32_t number, uint32_t ver
 /* As many charts, values and samples as there may be, and the samples' numbers as great. */
 static void put_the_greatest_batch(void)
 {
-    const struct record greatest = with(printed(), PELTQUARRY_RECORD_NUMBER, PELTQUARRY_MOST_NUMBER);
+    const struct record greatest = numbered(printed(), PELTQUARRY_MOST_NUMBER);
     batch_length = 0;
     put(PELTQUARRY_MOST_CHARTS);
     for (size_t place = 0; place < PELTQUARRY_MOST_CHARTS; place++) {
@@ -417,13 +449,27 @@ static uint32_t listed(size_t length, size_t room, size_t *size)
     return code == PELTQUARRY_DONE ? refusal : code;
 }
 
+/* The number that begins the text's second line, or 0 where there is none. */
+static uint64_t first_number(void)
+{
+    const char *rows = strchr(text, '\n');
+    uint64_t number = 0;
+    if (rows != NULL) {
+        sscanf(rows, "%" SCNu64, &number);
+    }
+    return number;
+}
+
 static void listings(void)
 {
     const size_t length = PELTQUARRY_MOST_BYTES, room = PELTQUARRY_MOST_TEXT;
+    const uint32_t *row = answer + 1;
     size_t size = 0;
     put_the_greatest_batch();
+    hold("the greatest batch again", PELTQUARRY_DONE, answered(PELTQUARRY_MOST_BATCH, PELTQUARRY_MOST_ANSWER));
     hold("the greatest listing", PELTQUARRY_DONE, listed(length, room, &size));
     hold("its text", room, size);
+    hold("its first number", 1, first_number() == PELTQUARRY_NUMBER(row[PELTQUARRY_ROW_NUMBER_HIGH], row[PELTQUARRY_ROW_NUMBER_LOW]));
     hold("its text less a byte", PELTQUARRY_REFUSED_OUTPUT_LENGTH, listed(length, room - 1, &size));
     /* Too many charts are refused after too many bytes. */
     batch[0] = PELTQUARRY_MOST_CHARTS + 1;
@@ -435,6 +481,7 @@ int main(void)
 {
     lengths_of_a_record();
     fields_of_a_record();
+    numbers();
     kinds();
     readings();
     order_of_ions();

@@ -1,9 +1,11 @@
 /*
  * Follows a bottle through its runs on the analyser: the readings move between the first and the second run and agree at the
- * third, which closes the docket as confirmed; a fourth run is refused. Build and run it at the repository's root:
+ * third, which closes the docket as confirmed; a fourth run is refused. At the end it prints the number of the bottle whose analysis
+ * the docket holds. Build and run it at the repository's root:
  *
  *   rt staticlib analyser && cc -Iinclude examples/bottle.c target/staticlib/libanalyser.a -o target/bottle && target/bottle
  */
+#include <inttypes.h>
 #include <stdio.h>
 #include <stdlib.h>
 
@@ -22,7 +24,8 @@ struct run {
     struct analysed readings[PELTQUARRY_DOC];
 };
 
-#define SAMPLE 7
+/* The number on the bottle's barcode. */
+#define SAMPLE UINT64_C(820450017003942)
 
 /* NH4-N, Ca, Mg, Na, K, SO4-S, NO3-N, Cl, TN. A value under its limit becomes a reading below that limit. */
 static const struct run runs[] = {
@@ -49,7 +52,8 @@ static void done(uint32_t code, const char *call)
 
 static void make_record(const struct run *run, uint32_t words[PELTQUARRY_RECORD_WORDS])
 {
-    words[PELTQUARRY_RECORD_NUMBER] = SAMPLE;
+    words[PELTQUARRY_RECORD_NUMBER_HIGH] = PELTQUARRY_HIGH_WORD(SAMPLE);
+    words[PELTQUARRY_RECORD_NUMBER_LOW] = PELTQUARRY_LOW_WORD(SAMPLE);
     words[PELTQUARRY_RECORD_KIND] = PELTQUARRY_BULK_OPEN_FIELD;
     words[PELTQUARRY_RECORD_PH] = run->ph;
     words[PELTQUARRY_RECORD_CONDUCTIVITY] = run->conductivity;
@@ -61,6 +65,13 @@ static void make_record(const struct run *run, uint32_t words[PELTQUARRY_RECORD_
     }
     words[PELTQUARRY_READING_MARK(PELTQUARRY_DOC)] = PELTQUARRY_MARK_MISSING;
     words[PELTQUARRY_READING_BITS(PELTQUARRY_DOC)] = 0;
+}
+
+/* The number of the bottle whose analysis a docket holds. */
+static uint64_t held_number(const uint32_t docket[PELTQUARRY_DOCKET_WORDS])
+{
+    const uint32_t *record = docket + PELTQUARRY_DOCKET_RECORD;
+    return PELTQUARRY_NUMBER(record[PELTQUARRY_RECORD_NUMBER_HIGH], record[PELTQUARRY_RECORD_NUMBER_LOW]);
 }
 
 int main(void)
@@ -81,5 +92,6 @@ int main(void)
         }
         printf("; docket %s, count %u\n", states[docket[PELTQUARRY_DOCKET_STATE]], docket[PELTQUARRY_DOCKET_COUNT]);
     }
+    printf("bottle %" PRIu64 "\n", held_number(docket));
     return 0;
 }

@@ -3,13 +3,13 @@
  *
  * A record, a docket, a batch and an answer are words of 32 bits, lent as a pointer and a number of words. Where each word stands
  * and how many there are is named below; what they mean stands in document 01, 'A record', 'A reading' and 'A batch',
- * and in document 02 (i): readings are floats in mg/L as before; the values of a chart are in tenths of a µg/L, like the amounts
- * that readings are rounded to.
+ * and in document 02 (i) and (ii): readings are floats in mg/L as before; the values of a chart are in tenths of a µg/L, like the
+ * amounts that readings are rounded to; a sample's number has up to 15 digits, and two words.
  *
  * Every call returns 0 where it did what was asked, else the number of a refusal:
  *
  *    1  the record is not PELTQUARRY_RECORD_WORDS words long
- *    2  the sample number is not from 1 to PELTQUARRY_MOST_NUMBER
+ *    2  the sample number, the whole one, is not from 1 to PELTQUARRY_MOST_NUMBER
  *    3  there is no such kind
  *    4  the pH is out of range
  *    5  the measured conductivity is out of range
@@ -19,7 +19,7 @@
  *    9  a count is beyond its range
  *   10  a chart's element is out of range or repeated, or a value is out of range
  *   11  the docket is closed, or is one that no offers produce
- *   12  the number or the kind of the sample differs from that of the record held
+ *   12  the whole number or the kind of the sample differs from that of the record held
  *   13  the lent output has fewer words than the answer
  *
  * The tests are made in the order given with each call, and the first that fails is returned. After a refusal all lent words
@@ -41,15 +41,16 @@ extern "C" {
 #endif
 
 /*
- * The words of a record: its fields, then its readings. pH is in hundredths, conductivity in tenths of a µS/cm, alkalinity in
- * tenths of a µeq/L.
+ * The words of a record: its fields, then its readings. The number has two words, which PELTQUARRY_NUMBER puts together; pH is in
+ * hundredths, conductivity in tenths of a µS/cm, alkalinity in tenths of a µeq/L.
  */
-#define PELTQUARRY_RECORD_NUMBER 0
-#define PELTQUARRY_RECORD_KIND 1
-#define PELTQUARRY_RECORD_PH 2
-#define PELTQUARRY_RECORD_CONDUCTIVITY 3
-#define PELTQUARRY_RECORD_ALKALINITY 4
-#define PELTQUARRY_FIRST_READING 5
+#define PELTQUARRY_RECORD_NUMBER_HIGH 0
+#define PELTQUARRY_RECORD_NUMBER_LOW 1
+#define PELTQUARRY_RECORD_KIND 2
+#define PELTQUARRY_RECORD_PH 3
+#define PELTQUARRY_RECORD_CONDUCTIVITY 4
+#define PELTQUARRY_RECORD_ALKALINITY 5
+#define PELTQUARRY_FIRST_READING 6
 #define PELTQUARRY_READINGS 10
 #define PELTQUARRY_READING_WORDS 2
 #define PELTQUARRY_READINGS_END (PELTQUARRY_FIRST_READING + PELTQUARRY_READINGS * PELTQUARRY_READING_WORDS)
@@ -63,9 +64,15 @@ extern "C" {
 #define PELTQUARRY_RUNOFF 5
 #define PELTQUARRY_SOIL_WATER 6
 
-/* The greatest sample number, and how many digits it has. */
-#define PELTQUARRY_MOST_NUMBER 999999
-#define PELTQUARRY_NUMBER_DIGITS 6
+/*
+ * The number that a high and a low word make, high * 2^32 + low, as a uint64_t; its high word and its low word; the greatest sample
+ * number, and how many digits it has.
+ */
+#define PELTQUARRY_NUMBER(high, low) ((uint64_t)(high) << 32 | (uint32_t)(low))
+#define PELTQUARRY_HIGH_WORD(number) ((uint32_t)((uint64_t)(number) >> 32))
+#define PELTQUARRY_LOW_WORD(number) ((uint32_t)(number))
+#define PELTQUARRY_MOST_NUMBER UINT64_C(999999999999999)
+#define PELTQUARRY_NUMBER_DIGITS 15
 
 /* The places of the readings; the words of a record that have the mark and the bits of each; and the marks. */
 #define PELTQUARRY_NH4_N 0
@@ -115,21 +122,22 @@ extern "C" {
     (1 + PELTQUARRY_MOST_CHARTS * PELTQUARRY_MOST_CHART_WORDS + 1 + PELTQUARRY_MOST_SAMPLES * PELTQUARRY_RECORD_WORDS)
 
 /*
- * The words of its answer: the number of samples, then a row for each with the sample's number, its verdicts, and 1 if some chart
- * whose element is not missing in the sample has a signal at its last later value, else 0.
+ * The words of its answer: the number of samples, then a row for each with the sample's number, high and low, its verdicts, and 1 if
+ * some chart whose element is not missing in the sample has a signal at its last later value, else 0.
  */
-#define PELTQUARRY_ROW_NUMBER 0
-#define PELTQUARRY_ROW_VERDICTS 1
+#define PELTQUARRY_ROW_NUMBER_HIGH 0
+#define PELTQUARRY_ROW_NUMBER_LOW 1
+#define PELTQUARRY_ROW_VERDICTS 2
 #define PELTQUARRY_ROW_FLAG (PELTQUARRY_ROW_VERDICTS + PELTQUARRY_VERDICT_WORDS)
 #define PELTQUARRY_ROW_WORDS (PELTQUARRY_ROW_FLAG + 1)
 #define PELTQUARRY_MOST_ANSWER (1 + PELTQUARRY_MOST_SAMPLES * PELTQUARRY_ROW_WORDS)
 
 /*
- * The most bytes of a listing's input, and of its text: a line of three digits, then a line for each row, which has the number's
- * digits, a space and a digit for each other word, and a newline.
+ * The most bytes of a listing's input, and of its text: a line of three digits, then a line for each row, which has the whole
+ * number's digits, a space and a digit for each word after it, and a newline.
  */
 #define PELTQUARRY_MOST_BYTES (4 * PELTQUARRY_MOST_BATCH)
-#define PELTQUARRY_MOST_LINE (PELTQUARRY_NUMBER_DIGITS + 2 * (PELTQUARRY_ROW_WORDS - 1) + 1)
+#define PELTQUARRY_MOST_LINE (PELTQUARRY_NUMBER_DIGITS + 2 * (PELTQUARRY_ROW_WORDS - PELTQUARRY_ROW_VERDICTS) + 1)
 #define PELTQUARRY_MOST_TEXT (3 + 1 + PELTQUARRY_MOST_SAMPLES * PELTQUARRY_MOST_LINE)
 
 /* Verdicts. */

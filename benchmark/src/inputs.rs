@@ -3,8 +3,8 @@
 
 use crate::numbers::{
     ALKALINITY, BITS, CHART_ELEMENT, CHART_HEAD, CHART_LATER, CHART_SETUP, CONDUCTIVITY,
-    FIRST_READING, IONS, KIND, KINDS, MARK, MOST_NUMBER, NUMBER, PH, READINGS_END, READING_WORDS,
-    RECORD_WORDS,
+    FIRST_READING, IONS, KIND, KINDS, MARK, MOST_NUMBER, NUMBER_HIGH, NUMBER_LOW, PH, READINGS_END,
+    READING_WORDS, RECORD_WORDS,
 };
 
 /// A small generator (xorshift); the same numbers in every run.
@@ -15,11 +15,20 @@ impl Random {
         Random(seed | 1)
     }
 
-    pub fn below(&mut self, n: u32) -> u32 {
+    fn next(&mut self) -> u64 {
         self.0 ^= self.0 << 13;
         self.0 ^= self.0 >> 7;
         self.0 ^= self.0 << 17;
-        ((self.0 >> 33) % u64::from(n)) as u32
+        self.0
+    }
+
+    pub fn below(&mut self, n: u32) -> u32 {
+        ((self.next() >> 33) % u64::from(n)) as u32
+    }
+
+    /// A sample's number, most of them of 15 digits.
+    fn number(&mut self) -> u64 {
+        1 + self.next() % MOST_NUMBER
     }
 
     /// From 0 to `most` mg/L, most of them small.
@@ -32,7 +41,9 @@ impl Random {
 /// A record: one reading in twenty is missing, one in seven below its limit.
 pub fn a_record(random: &mut Random) -> [u32; RECORD_WORDS] {
     let mut words = [0; RECORD_WORDS];
-    words[NUMBER] = 1 + random.below(MOST_NUMBER);
+    let number = random.number();
+    words[NUMBER_HIGH] = (number >> 32) as u32;
+    words[NUMBER_LOW] = number as u32;
     words[KIND] = 1 + random.below(KINDS);
     words[PH] = 350 + random.below(450);
     words[CONDUCTIVITY] = 30 + random.below(600);

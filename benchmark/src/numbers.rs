@@ -1,19 +1,20 @@
-//! The numbers of documents 01 and 02 (i) that both sides of a row go by: where words stand,
-//! how many there are and how far values reach.
+//! The numbers of documents 01 and 02 (i) and (ii) that both sides of a row go by: where words
+//! stand, how many there are and how far values reach.
 
 // A record.
-pub const NUMBER: usize = 0;
-pub const KIND: usize = 1;
-pub const PH: usize = 2;
-pub const CONDUCTIVITY: usize = 3;
-pub const ALKALINITY: usize = 4;
-pub const FIRST_READING: usize = 5;
+pub const NUMBER_HIGH: usize = 0;
+pub const NUMBER_LOW: usize = 1;
+pub const KIND: usize = 2;
+pub const PH: usize = 3;
+pub const CONDUCTIVITY: usize = 4;
+pub const ALKALINITY: usize = 5;
+pub const FIRST_READING: usize = 6;
 pub const READINGS: usize = 10;
 pub const READING_WORDS: usize = 2;
 pub const READINGS_END: usize = FIRST_READING + READINGS * READING_WORDS;
 pub const RECORD_WORDS: usize = READINGS_END;
 
-pub const MOST_NUMBER: u32 = 999_999;
+pub const MOST_NUMBER: u64 = 999_999_999_999_999;
 pub const KINDS: u32 = 6;
 pub const LEAST_PH: u32 = 200;
 pub const MOST_PH: u32 = 1_000;
@@ -60,8 +61,8 @@ pub const MOST_VALUE: u32 = 2_000_000;
 pub const MOST_CHARTS: u32 = 10;
 pub const MOST_SAMPLES: usize = 400;
 pub const COUNT_WORDS: usize = 1;
-/// Number, verdicts, flag.
-pub const ROW_WORDS: usize = 1 + CHECKS + 1;
+/// Number, high and low, verdicts, flag.
+pub const ROW_WORDS: usize = 2 + CHECKS + 1;
 
 pub const fn answer_words(samples: usize) -> usize {
     COUNT_WORDS + samples * ROW_WORDS

@@ -3,10 +3,11 @@
 use crate::floats::{any_reading, scattered_reading};
 use crate::numbers::{
     AMMONIUM, CONDUCTIVITY_TENTH, IONS, LEAST_PH, MOST_ALKALINITY, MOST_AMOUNT, MOST_CONDUCTIVITY,
-    MOST_NUMBER, MOST_PH, MOST_TRACE, NITRATE, ORGANIC_CARBON, READINGS, SODIUM, SOIL_WATER,
-    TOTAL_NITROGEN, WET_ONLY,
+    MOST_PH, MOST_TRACE, NITRATE, ORGANIC_CARBON, READINGS, SODIUM, SOIL_WATER, TOTAL_NITROGEN,
+    WET_ONLY,
 };
 use crate::random::Draw;
+use crate::sample_numbers::any_number;
 use reference::cases::bottle::Bottle;
 use reference::cases::generator::Generator;
 use reference::hydrogen::Ph;
@@ -26,7 +27,7 @@ pub fn any_bottle(generator: &mut Generator) -> Bottle {
 /// Any record that isn't refused, hardly ever one that makes sense.
 pub fn scattered(generator: &mut Generator) -> Bottle {
     let mut bottle = Bottle::printed()
-        .number(1 + generator.of_any_size(MOST_NUMBER - 1))
+        .number(any_number(generator))
         .kind(generator.between(WET_ONLY, SOIL_WATER))
         .ph(generator.between(LEAST_PH, MOST_PH))
         .conductivity(1 + generator.of_any_size(MOST_CONDUCTIVITY - 1))
@@ -45,7 +46,7 @@ pub fn everyday(generator: &mut Generator) -> Bottle {
     draft.balance(generator);
     let conductivity = draft.conductivity(generator);
     let mut bottle = Bottle::printed()
-        .number(generator.between(1, MOST_NUMBER))
+        .number(any_number(generator))
         .kind(generator.between(WET_ONLY, SOIL_WATER))
         .ph(draft.ph)
         .conductivity(conductivity)

@@ -8,7 +8,8 @@ pub trait Cell: Copy + PartialEq {
     fn canary(place: usize) -> Self;
 
     /// What stands in a lent slice before the call: another value at each
-    /// place, so that moved content shows, and none that is an answer.
+    /// place, so that moved content shows, and hardly ever one that is an
+    /// answer: of a row's words only the number's low part can be as great.
     fn old(place: usize) -> Self;
 }
 

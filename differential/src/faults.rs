@@ -1,6 +1,7 @@
 //! Faults put into the stand-in: each must be found by the part that it names.
 
 mod amounts;
+mod numbers;
 
 use crate::answers;
 use crate::library::Library;
@@ -10,14 +11,15 @@ use crate::numbers::{
     MOST_AMOUNT, MOST_BYTES, MOST_ELEMENT, MOST_VALUE, ORGANIC_CARBON, ROW_FLAG, ROW_WORDS, RUNOFF,
     WORD_BYTES,
 };
-use crate::stand_in::{write, StandIn};
+use crate::stand_in::{write, write_text, StandIn};
 use amounts::{in_micrograms, misread, with_amounts};
+use numbers::{misnumbered, misnumbered_rows, offer_by_the_low_part, text_of_low_parts};
 use reference::charts::SEVEN_ON_ONE_SIDE;
 use reference::checks::{conductivity, ion_balance, Conductivity, Inequality, IonBalance};
 use reference::docket::agree;
 use reference::readings::Reading;
 use reference::record::Record;
-use reference::refusals::{BATCH_LENGTH, CHART, DOCKET};
+use reference::refusals::{BATCH_LENGTH, CHART, DOCKET, OTHER_SAMPLE};
 use std::cmp::Ordering;
 use std::ops::Range;
 
@@ -32,6 +34,10 @@ pub enum Fault {
     FloorForHydrogen,
     CarbonLineIncluded,
     TwentyInTheUpperClass,
+    SwappedInTheRecord,
+    TenToTheFifteenTaken,
+    GreatestWordsTaken,
+    RangeByTheLowPart,
     WritesWhenRefused,
     WritesBehindTheAnswer,
     EqualIsBelow,
@@ -39,6 +45,7 @@ pub enum Fault {
     ExactTenthDisagrees,
     AgreesInMicrograms,
     HoldsTheFirst,
+    SampleByTheLowPart,
     ForeignStateIsOpen,
     GreatValuesRefused,
     ValueBeyondTaken,
@@ -47,6 +54,9 @@ pub enum Fault {
     LeftoversTaken,
     RepeatedElementTaken,
     MissingElementFlagged,
+    HighDroppedInARow,
+    SwappedInARow,
+    HighDroppedInTheText,
     LongBytesTaken,
     LengthToldWhenRefused,
 }
@@ -54,7 +64,7 @@ pub enum Fault {
 use Fault::*;
 
 /// Every fault with the part that must find it.
-pub const FAULTS: [(Fault, &str); 26] = [
+pub const FAULTS: [(Fault, &str); 34] = [
     (TieGoesDown, "records"),
     (WholeMicrograms, "records"),
     (HalfOfTheRounded, "records"),
@@ -64,6 +74,10 @@ pub const FAULTS: [(Fault, &str); 26] = [
     (FloorForHydrogen, "records"),
     (CarbonLineIncluded, "records"),
     (TwentyInTheUpperClass, "records"),
+    (SwappedInTheRecord, "records"),
+    (TenToTheFifteenTaken, "records"),
+    (GreatestWordsTaken, "records"),
+    (RangeByTheLowPart, "records"),
     (WritesWhenRefused, "records"),
     (WritesBehindTheAnswer, "records"),
     (EqualIsBelow, "readings"),
@@ -71,6 +85,7 @@ pub const FAULTS: [(Fault, &str); 26] = [
     (ExactTenthDisagrees, "offers"),
     (AgreesInMicrograms, "offers"),
     (HoldsTheFirst, "offers"),
+    (SampleByTheLowPart, "offers"),
     (ForeignStateIsOpen, "offers"),
     (GreatValuesRefused, "charts"),
     (ValueBeyondTaken, "charts"),
@@ -79,6 +94,9 @@ pub const FAULTS: [(Fault, &str); 26] = [
     (LeftoversTaken, "batches"),
     (RepeatedElementTaken, "batches"),
     (MissingElementFlagged, "batches"),
+    (HighDroppedInARow, "batches"),
+    (SwappedInARow, "batches"),
+    (HighDroppedInTheText, "batches"),
     (LongBytesTaken, "batches"),
     (LengthToldWhenRefused, "batches"),
 ];
@@ -96,7 +114,8 @@ pub struct Faulty(pub Fault);
 
 impl Library for Faulty {
     fn judge(&self, words: &[u32], verdicts: &mut [u32]) -> u32 {
-        let answer = StandIn.judge(&misread(self.0, words), verdicts);
+        let read = misnumbered(self.0, misread(self.0, words));
+        let answer = StandIn.judge(&read, verdicts);
         match (self.0, Record::read(words)) {
             (WritesWhenRefused, _) if answer != 0 => verdicts.fill(0),
             (WritesBehindTheAnswer, _) if answer == 0 && verdicts.len() > CHECKS => {
@@ -132,6 +151,9 @@ impl Library for Faulty {
             AgreesInMicrograms if answer == 0 => agree_in_micrograms(&before, docket),
             HoldsTheFirst if answer == 0 && before[DOCKET_COUNT] > 0 => {
                 docket[HELD].copy_from_slice(&before[HELD]);
+            }
+            SampleByTheLowPart if answer == OTHER_SAMPLE => {
+                return offer_by_the_low_part(docket, words);
             }
             ForeignStateIsOpen if answer == DOCKET && docket[DOCKET_STATE] > 3 => {
                 docket[DOCKET_STATE] = 0;
@@ -170,7 +192,10 @@ impl Library for Faulty {
             (LeftoversTaken, Err(BATCH_LENGTH)) => without_leftovers(words, answer),
             (RepeatedElementTaken, Err(_)) => with_other_elements(words, answer),
             (MissingElementFlagged, Ok(_)) => with_all_elements(words, answer),
-            (_, found) => write(found, answer),
+            (fault, found) => {
+                let rows = found.map(|rows| misnumbered_rows(fault, rows));
+                write(rows, answer)
+            }
         }
     }
 
@@ -180,7 +205,13 @@ impl Library for Faulty {
             LongBytesTaken if bytes.len() == MOST_BYTES + WORD_BYTES => &bytes[..MOST_BYTES],
             _ => bytes,
         };
-        let answer = StandIn.list(bytes, text, length);
+        let answer = match self.0 {
+            HighDroppedInTheText => {
+                let listed = text_of_low_parts(&answers::list(bytes));
+                write_text(&listed, text, length)
+            }
+            _ => StandIn.list(bytes, text, length),
+        };
         if self.0 == LengthToldWhenRefused && answer != 0 {
             *length = answers::list(bytes).len();
         }
@@ -407,7 +438,7 @@ mod tests {
 
     /// The input that the search ends with, for a fault that has a known
     /// smallest one.
-    fn smallest_input(fault: Fault) -> String {
+    pub(super) fn smallest_input(fault: Fault) -> String {
         let (_, name) = FAULTS[FAULTS
             .iter()
             .position(|(f, _)| *f == fault)

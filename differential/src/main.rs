@@ -1,5 +1,5 @@
 //! The proved library against the other implementation of document 01, with
-//! request (i) of document 02.
+//! requests (i) and (ii) of document 02.
 
 mod answers;
 mod batches;
@@ -21,6 +21,7 @@ mod parts;
 mod random;
 mod readings;
 mod records;
+mod sample_numbers;
 mod shrink;
 #[cfg(feature = "stand-in")]
 mod stand_in;

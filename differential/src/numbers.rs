@@ -1,7 +1,7 @@
 //! The numbers that draws and comparisons go by. Where words stand is the other
 //! implementation's to say, as its bottles and batches are what is drawn; how
-//! far values reach is said here once more, by document 01 and, for amounts and
-//! chart values, by request (i) of document 02.
+//! far values reach is said here once more, by document 01 and by document 02:
+//! request (i) for amounts and chart values, request (ii) for sample numbers.
 
 // Some of these are for the faults or for tests alone.
 #[allow(unused_imports)]
@@ -10,13 +10,18 @@ pub use reference::numbers::{
     CHART_ELEMENT, CHART_HEAD, CHART_LATER, CHART_SETUP, CHECKS, CHLORIDE, CONDUCTIVITY,
     CONDUCTIVITY_CHECK, CONDUCTIVITY_TENTH, COUNT_WORDS, FIRST_READING, IONS, KIND,
     LEAST_LIMIT_BITS, MAGNESIUM, MOST_BITS, MOST_BYTES, MOST_SAMPLES, NITRATE, NITROGEN_CHECK,
-    NUMBER, ORGANIC_CARBON, PH, POTASSIUM, RATIO_CHECK, READINGS, READINGS_END, READING_WORDS,
-    RECORD_WORDS, ROW_FLAG, ROW_WORDS, RUNOFF, SODIUM, SOIL_WATER, SULPHATE, TOTAL_NITROGEN,
-    WET_ONLY, WORD_BYTES,
+    NUMBER_HIGH, NUMBER_LOW, ORGANIC_CARBON, PH, POTASSIUM, RATIO_CHECK, READINGS, READINGS_END,
+    READING_WORDS, RECORD_WORDS, ROW_FIELDS, ROW_FLAG, ROW_NUMBER_HIGH, ROW_NUMBER_LOW, ROW_WORDS,
+    RUNOFF, SODIUM, SOIL_WATER, SULPHATE, TOTAL_NITROGEN, WET_ONLY, WORD_BYTES,
 };
+#[allow(unused_imports)]
+pub use reference::sample_number::{of_parts, parts_of};
+use std::ops::Range;
 
-/// "sample number, 1 to 999,999"
-pub const MOST_NUMBER: u32 = 999_999;
+/// "Bottle numbers now have up to 15 digits."
+pub const MOST_DIGITS: u32 = 15;
+/// "number = high × 2^32 + low, from 1 to 10^15 − 1"
+pub const MOST_NUMBER: u64 = 999_999_999_999_999;
 /// "pH in hundredths, called p, 200 to 1,000"
 pub const LEAST_PH: u32 = 200;
 pub const MOST_PH: u32 = 1_000;
@@ -25,9 +30,13 @@ pub const MOST_CONDUCTIVITY: u32 = 100_000;
 /// "alkalinity in tenths of µeq/L, 0 to 200,000"
 pub const MOST_ALKALINITY: u32 = 200_000;
 
-/// The words before the readings, each with its least and its greatest value.
-pub const RANGES: [(usize, u32, u32); 5] = [
-    (NUMBER, 1, MOST_NUMBER),
+/// The two words that make the number. Neither has a range of its own: which
+/// values of one are taken hangs on the other.
+pub const NUMBER_WORDS: Range<usize> = NUMBER_HIGH..NUMBER_LOW + 1;
+
+/// The words between the number and the readings, each a field of its own with
+/// its least and its greatest value.
+pub const RANGES: [(usize, u32, u32); 4] = [
     (KIND, WET_ONLY, SOIL_WATER),
     (PH, LEAST_PH, MOST_PH),
     (CONDUCTIVITY, 1, MOST_CONDUCTIVITY),
@@ -73,7 +82,7 @@ pub const MOST_DOCKET_ROOM: usize = DOCKET_WORDS + 3;
 pub const MOST_READING_ROOM: usize = READING_WORDS + 2;
 pub const LONGEST_RECORD: usize = 2 * RECORD_WORDS + 10;
 /// How many canaries stand on each side of a lent slice: more than an answer
-/// could run over by one row and by one record.
+/// could run over by one row and by one record, and a text by one line.
 pub const MARGIN: usize = RECORD_WORDS + ROW_WORDS + 1;
 
 #[cfg(test)]
@@ -85,8 +94,8 @@ mod tests {
     /// A limit that was changed in one place alone.
     #[test]
     fn the_other_implementation_says_the_same() {
+        assert_eq!(MOST_NUMBER, numbers::MOST_NUMBER);
         for (here, there) in [
-            (MOST_NUMBER, numbers::MOST_NUMBER),
             (LEAST_PH, numbers::LEAST_PH),
             (MOST_PH, numbers::MOST_PH),
             (MOST_CONDUCTIVITY, numbers::MOST_CONDUCTIVITY),
@@ -114,8 +123,36 @@ mod tests {
     }
 
     #[test]
-    fn every_word_before_the_readings_has_its_range() {
-        let places = RANGES.map(|(place, _, _)| place);
-        assert_eq!(places.to_vec(), (0..FIRST_READING).collect::<Vec<_>>());
+    fn every_word_before_the_readings_is_the_number_s_or_has_its_range() {
+        let fields = RANGES.into_iter().map(|(place, _, _)| place);
+        let places: Vec<usize> = NUMBER_WORDS.chain(fields).collect();
+        assert_eq!(places, (0..FIRST_READING).collect::<Vec<_>>());
+    }
+
+    /// "Word 0 becomes the high part, a new word 1 the low part."
+    #[test]
+    fn a_number_is_high_times_two_to_the_32_and_low() {
+        assert_eq!(NUMBER_WORDS, 0..2);
+        assert_eq!((ROW_NUMBER_HIGH, ROW_NUMBER_LOW), (0, 1));
+        for (high, low) in [(0, 0), (0, u32::MAX), (1, 0), (7, 9), (u32::MAX, u32::MAX)] {
+            let number = u128::from(high) * (1 << 32) + u128::from(low);
+            assert_eq!(u128::from(of_parts(high, low)), number);
+            assert_eq!(parts_of(of_parts(high, low)), (high, low));
+        }
+        assert_eq!(MOST_NUMBER, 10u64.pow(MOST_DIGITS) - 1);
+    }
+
+    /// What the document prints of lengths, and what follows from it: 26 words,
+    /// seven words a row and the number in one field of its line, 46,848 bytes.
+    #[test]
+    fn lengths_are_the_document_s() {
+        assert_eq!((RECORD_WORDS, DOCKET_WORDS), (26, 2 + 26));
+        assert_eq!((ROW_WORDS, ROW_FIELDS), (7, 6));
+        assert_eq!([0, 1, 400].map(answer_words), [1, 8, 2_801]);
+        assert_eq!(MOST_BYTES, 46_848);
+        // The number's digits, a space and a digit for each other field, and
+        // the line's end.
+        let longest_line = MOST_DIGITS as usize + 2 * (ROW_FIELDS - 1) + 1;
+        assert!(MARGIN > longest_line);
     }
 }

@@ -22,6 +22,15 @@ pub fn write<T: Copy>(answer: Result<impl AsRef<[T]>, Refusal>, lent: &mut [T]) 
     0
 }
 
+/// Writes a text and tells its length, or leaves both as they are.
+pub fn write_text(listed: &[u8], text: &mut [u8], length: &mut usize) -> u32 {
+    let refusal = write(Ok(listed), text);
+    if refusal == 0 {
+        *length = listed.len();
+    }
+    refusal
+}
+
 impl Library for StandIn {
     fn judge(&self, words: &[u32], verdicts: &mut [u32]) -> u32 {
         write(answers::judge(words), verdicts)
@@ -48,11 +57,6 @@ impl Library for StandIn {
     }
 
     fn list(&self, bytes: &[u8], text: &mut [u8], length: &mut usize) -> u32 {
-        let listed = answers::list(bytes);
-        let refusal = write(Ok(&listed), text);
-        if refusal == 0 {
-            *length = listed.len();
-        }
-        refusal
+        write_text(&answers::list(bytes), text, length)
     }
 }

@@ -55,11 +55,11 @@ fn rows() -> Vec<Row> {
 impl Row {
     fn read(line: &str) -> Row {
         let fields: Vec<&str> = line.split('\t').collect();
-        let number = fields[NUMBER_COLUMN].parse().expect("a row number");
+        let number: u32 = fields[NUMBER_COLUMN].parse().expect("a row number");
         // The sheet doesn't print a kind; to bulk samples of the open field all
         // four checks apply, as all four have been done there.
         let mut record = Bottle::without_ions()
-            .number(number)
+            .number(number.into())
             .kind(BULK)
             .ph(scaled(fields[PH_COLUMN], 2))
             .conductivity(scaled(fields[CONDUCTIVITY_COLUMN], 1))
@@ -151,7 +151,7 @@ fn describe(answer: u32, verdicts: &[u32]) -> String {
 mod tests {
     use super::*;
     use crate::answers::judge;
-    use crate::numbers::RANGES;
+    use crate::numbers::{NUMBER_WORDS, RANGES};
     use reference::readings::Reading;
 
     #[test]
@@ -160,8 +160,9 @@ mod tests {
         let numbers: Vec<u32> = rows.iter().map(|row| row.number).collect();
         assert_eq!(numbers, (9..=32).collect::<Vec<u32>>());
         let first = rows[0].record.words();
-        let before_readings = RANGES.map(|(place, _, _)| first[place]);
-        assert_eq!(before_readings, [9, BULK, 589, 456, 80]);
+        assert_eq!(first[NUMBER_WORDS], [0, 9]);
+        let other_fields = RANGES.map(|(place, _, _)| first[place]);
+        assert_eq!(other_fields, [BULK, 589, 456, 80]);
         assert!(rows.iter().all(|row| judge(row.record.words()).is_ok()));
     }
 

@@ -4,10 +4,11 @@ use crate::charts::{last_signal, test_counts, test_values};
 use crate::checks::{verdicts, Verdict};
 use crate::numbers::{
     reading_of, CHART_ELEMENT, CHART_HEAD, CHART_LATER, CHART_SETUP, ELEMENTS, MOST_CHARTS,
-    MOST_SAMPLES, RECORD_WORDS, ROW_FLAG, ROW_NUMBER, ROW_VERDICTS, ROW_WORDS,
+    MOST_SAMPLES, RECORD_WORDS, ROW_FLAG, ROW_NUMBER_HIGH, ROW_NUMBER_LOW, ROW_VERDICTS, ROW_WORDS,
 };
 use crate::record::Record;
 use crate::refusals::{require, Refusal, BATCH_LENGTH, CHART, COUNT, OUTPUT};
+use crate::sample_number::parts_of;
 
 /// "A batch is read from the front, each part whole (else 8) before its tests."
 struct Reader<'a> {
@@ -88,10 +89,11 @@ fn flag(charts: &[Chart], sample: &Record) -> u32 {
     u32::from(flagged)
 }
 
-/// "six words a sample: number, four verdicts in the order above, and" the flag.
+/// "Output rows have seven words, high and low first" (document 02 (ii)), then
+/// "four verdicts in the order above, and" the flag.
 fn row(charts: &[Chart], sample: &Record) -> [u32; ROW_WORDS] {
     let mut row = [0; ROW_WORDS];
-    row[ROW_NUMBER] = sample.number;
+    (row[ROW_NUMBER_HIGH], row[ROW_NUMBER_LOW]) = parts_of(sample.number);
     row[ROW_VERDICTS..ROW_FLAG].copy_from_slice(&verdicts(sample).map(Verdict::number));
     row[ROW_FLAG] = flag(charts, sample);
     row
@@ -125,8 +127,8 @@ mod tests {
     use crate::cases::bottle::Bottle;
     use crate::cases::greatest_batch::peltquarry_input;
     use crate::numbers::{
-        answer_words, CHLORIDE, LEAST_SETUP, MOST_ANSWER, MOST_BATCH, MOST_LATER, MOST_VALUE,
-        READINGS,
+        answer_words, CHLORIDE, LEAST_SETUP, MOST_ANSWER, MOST_BATCH, MOST_LATER, MOST_NUMBER,
+        MOST_VALUE, READINGS,
     };
     use crate::words::whole_words;
 
@@ -136,14 +138,26 @@ mod tests {
         batch(&charts, &[Bottle::printed(), without_chloride])
     }
 
-    /// The answer to it: two samples, each with number, verdicts and flag.
+    /// The answer to it: two samples, each with both words of its number,
+    /// verdicts and flag.
     fn small_answer() -> Vec<u32> {
-        vec![2, 7, 1, 1, 1, 1, 1, 7, 4, 4, 4, 1, 0]
+        vec![2, 0, 7, 1, 1, 1, 1, 1, 0, 7, 4, 4, 4, 1, 0]
     }
 
     #[test]
     fn a_small_batch_is_answered() {
         assert_eq!(answer(&small()), Ok(small_answer()));
+    }
+
+    #[test]
+    fn a_row_begins_with_the_high_and_the_low_part() {
+        for parts in [(0, 1), (1, 0), (2, 3), (3, 2), (232_830, 2_764_472_319)] {
+            let (high, low) = parts;
+            let words = batch(&[], &[Bottle::printed().parts(parts)]);
+            assert_eq!(answer(&words), Ok(vec![1, high, low, 1, 1, 1, 1, 0]));
+        }
+        let too_great = Bottle::printed().number(MOST_NUMBER + 1).kind(0);
+        assert_eq!(answer(&batch(&[], &[too_great])), Err(2));
     }
 
     #[test]

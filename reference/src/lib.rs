@@ -1,5 +1,5 @@
 //! The water analysis judge a second time, written from documents 01 and 02 (i)
-//! and the settled readings of their open points alone.
+//! and (ii) and the settled readings of their open points alone.
 //!
 //! The modules follow the sections of document 01. Every algorithm is the most
 //! literal one: whole numbers and exact fractions, nothing tabulated beyond
@@ -18,6 +18,7 @@ pub mod numbers;
 pub mod readings;
 pub mod record;
 pub mod refusals;
+pub mod sample_number;
 
 pub mod cases;
 pub mod follow;

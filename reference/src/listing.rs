@@ -1,11 +1,15 @@
 //! The listing program: bytes in, text out.
 
 use crate::batch::answer;
-use crate::numbers::{COUNT_WORDS, MOST_BYTES, ROW_WORDS, WORD_BYTES};
+use crate::numbers::{
+    COUNT_WORDS, MOST_BYTES, ROW_NUMBER_HIGH, ROW_NUMBER_LOW, ROW_VERDICTS, ROW_WORDS, WORD_BYTES,
+};
 use crate::refusals::{Refusal, BATCH_LENGTH, OUTPUT};
+use crate::sample_number::of_parts;
 use crate::words::whole_words;
 
-/// "Bytes not a multiple of 4, or over 45,248, give 8 before any other test."
+/// "Bytes not a multiple of 4, or over" their limit, "give 8 before any other
+/// test", and the limit "becomes 46,848" (document 02 (ii)).
 fn answer_to_bytes(bytes: &[u8]) -> Result<Vec<u32>, Refusal> {
     if bytes.len() % WORD_BYTES != 0 || bytes.len() > MOST_BYTES {
         return Err(BATCH_LENGTH);
@@ -27,13 +31,21 @@ fn lines(words: &[u32]) -> String {
     let (count, rows) = words.split_at(COUNT_WORDS);
     let mut text = line(count);
     for row in rows.chunks(ROW_WORDS) {
-        text += &line(row);
+        text += &line(&fields(row));
     }
     text
 }
 
-fn line(fields: &[u32]) -> String {
-    let fields: Vec<String> = fields.iter().map(u32::to_string).collect();
+/// "The program prints the whole number as one field" (document 02 (ii)), then
+/// the other words of the row.
+fn fields(row: &[u32]) -> Vec<u64> {
+    let number = of_parts(row[ROW_NUMBER_HIGH], row[ROW_NUMBER_LOW]);
+    let others = row[ROW_VERDICTS..].iter().map(|&word| u64::from(word));
+    [number].into_iter().chain(others).collect()
+}
+
+fn line(fields: &[impl ToString]) -> String {
+    let fields: Vec<String> = fields.iter().map(ToString::to_string).collect();
     fields.join(" ") + "\n"
 }
 
@@ -49,9 +61,12 @@ pub fn list(bytes: &[u8], lent: &mut [u8]) -> Result<usize, Refusal> {
 #[cfg(test)]
 mod tests {
     use super::*;
-    use crate::cases::batches::{batch, charts_counted, samples_counted};
+    use crate::cases::batches::{batch, charts_counted, printed_with, samples_counted};
     use crate::cases::bottle::Bottle;
-    use crate::numbers::{MOST_BATCH, MOST_CHARTS, MOST_NUMBER, MOST_SAMPLES, MOST_TEXT};
+    use crate::cases::sample_numbers::{edge_parts, mixed};
+    use crate::numbers::{
+        MOST_BATCH, MOST_CHARTS, MOST_LINE, MOST_NUMBER, MOST_SAMPLES, MOST_TEXT, ROW_FIELDS,
+    };
     use crate::words::to_bytes;
 
     fn printed() -> Vec<u8> {
@@ -77,7 +92,61 @@ mod tests {
     }
 
     #[test]
+    fn the_printed_example_begins_with_two_counts_and_a_high_word() {
+        assert_eq!(
+            batch(&[], &[Bottle::printed()])[..7],
+            [0, 1, 0, 7, 2, 500, 150]
+        );
+    }
+
+    fn text_of(bottles: &[Bottle]) -> String {
+        text(&to_bytes(&batch(&[], bottles)))
+    }
+
+    #[test]
+    fn the_whole_number_is_one_field() {
+        for (parts, number) in [
+            ((0, 1), "1"),
+            ((1, 0), "4294967296"),
+            ((1, 7), "4294967303"),
+            ((7, 1), "30064771073"),
+            ((232_830, 0), "999997235527680"),
+            ((232_830, 2_764_472_319), "999999999999999"),
+        ] {
+            let text = text_of(&[Bottle::printed().parts(parts)]);
+            assert_eq!(text, format!("1\n{number} 1 1 1 1 0\n"));
+        }
+    }
+
+    #[test]
+    fn every_number_is_printed_in_base_ten_or_refused() {
+        for (high, low) in edge_parts() {
+            let wide = u128::from(high) * 4_294_967_296 + u128::from(low);
+            let expected = match wide {
+                1..=999_999_999_999_999 => format!("1\n{wide} 1 1 1 1 0\n"),
+                _ => "refused 2\n".to_string(),
+            };
+            assert_eq!(text_of(&[Bottle::printed().parts((high, low))]), expected);
+        }
+    }
+
+    #[test]
+    fn many_numbers_in_one_text() {
+        let numbers = mixed();
+        let text = text_of(&printed_with(numbers.clone()));
+        let rows: Vec<&str> = text.lines().skip(1).collect();
+        assert_eq!(rows.len(), numbers.len());
+        for (row, number) in rows.into_iter().zip(numbers) {
+            let fields: Vec<&str> = row.split(' ').collect();
+            assert_eq!(fields.len(), ROW_FIELDS);
+            assert_eq!(fields[0].parse(), Ok(number));
+        }
+    }
+
+    #[test]
     fn the_longest_text() {
+        let longest = text_of(&[Bottle::printed().number(MOST_NUMBER)]);
+        assert_eq!(longest.lines().last().map(str::len), Some(MOST_LINE - 1));
         let samples = vec![Bottle::printed().number(MOST_NUMBER); MOST_SAMPLES as usize];
         assert_eq!(text(&to_bytes(&batch(&[], &samples))).len(), MOST_TEXT);
     }

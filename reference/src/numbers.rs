@@ -1,36 +1,41 @@
-//! The numbers of documents 01 and 02 (i) in one place: where words stand, how
-//! many there are and how far values reach. What follows from others is worked
-//! out from them. A comment quotes document 01 unless it names 02 (i).
+//! The numbers of documents 01 and 02 (i) and (ii) in one place: where words
+//! stand, how many there are and how far values reach. What follows from others
+//! is worked out from them. A comment quotes document 01 unless it names 02 (i)
+//! or 02 (ii).
 
-use std::ops::{Range, RangeInclusive};
+use std::ops::RangeInclusive;
 
 /// "Words of 32 bits" have four bytes.
 pub const WORD_BYTES: usize = 4;
 
 // "A record"
 
-/// The places of a record's first words: "word 0 sample number, .. word 1
-/// kind .., word 2 pH in hundredths .., word 3 measured conductivity .., word 4
-/// alkalinity".
-pub const NUMBER: usize = 0;
-pub const KIND: usize = 1;
-pub const PH: usize = 2;
-pub const CONDUCTIVITY: usize = 3;
-pub const ALKALINITY: usize = 4;
-/// "words 5 to 24: ten readings of two words"
-pub const FIRST_READING: usize = 5;
+/// The places of the sample number's two words: "Word 0 becomes the high part,
+/// a new word 1 the low part" (02 (ii)).
+pub const NUMBER_HIGH: usize = 0;
+pub const NUMBER_LOW: usize = 1;
+/// The places of the words after these, in the order "kind .., pH in hundredths
+/// .., measured conductivity .., alkalinity": "later ones moved by one"
+/// (02 (ii)).
+pub const KIND: usize = 2;
+pub const PH: usize = 3;
+pub const CONDUCTIVITY: usize = 4;
+pub const ALKALINITY: usize = 5;
+/// "ten readings of two words", moved by one as well.
+pub const FIRST_READING: usize = 6;
 pub const READINGS: usize = 10;
 pub const READING_WORDS: usize = 2;
 pub const READINGS_END: usize = FIRST_READING + READINGS * READING_WORDS;
-/// "25 words of 32 bits, lent as a slice of words."
+/// "A record has 26 words" (02 (ii)), "lent as a slice of words".
 pub const RECORD_WORDS: usize = READINGS_END;
 
-/// What refusal 12 compares: "number or kind".
-pub const SAMPLE: Range<usize> = NUMBER..KIND + 1;
-
-/// Word 0: "1 to 999,999".
-pub const MOST_NUMBER: u32 = 999_999;
-/// Word 1: "1 wet-only, 2 bulk open field, 3 throughfall, 4 stemflow, 5 runoff,
+/// "number = high × 2^32 + low" (02 (ii)): how many values a word has.
+pub const WORD_VALUES: u64 = 1 << 32;
+/// The number: "from 1 to 10^15 − 1" (02 (ii)).
+pub const MOST_NUMBER: u64 = 999_999_999_999_999;
+/// "Bottle numbers now have up to 15 digits" (02 (ii)).
+pub const NUMBER_DIGITS: usize = digits(MOST_NUMBER);
+/// The kind: "1 wet-only, 2 bulk open field, 3 throughfall, 4 stemflow, 5 runoff,
 /// 6 soil water".
 pub const WET_ONLY: u32 = 1;
 pub const BULK: u32 = 2;
@@ -39,12 +44,12 @@ pub const STEMFLOW: u32 = 4;
 pub const RUNOFF: u32 = 5;
 pub const SOIL_WATER: u32 = 6;
 pub const KINDS: RangeInclusive<u32> = WET_ONLY..=SOIL_WATER;
-/// Word 2: "200 to 1,000".
+/// pH: "200 to 1,000".
 pub const LEAST_PH: u32 = 200;
 pub const MOST_PH: u32 = 1_000;
-/// Word 3: "1 to 100,000".
+/// Conductivity: "1 to 100,000".
 pub const MOST_CONDUCTIVITY: u32 = 100_000;
-/// Word 4: "0 to 200,000".
+/// Alkalinity: "0 to 200,000".
 pub const MOST_ALKALINITY: u32 = 200_000;
 
 // "A reading"
@@ -141,13 +146,18 @@ pub const fn reading_of(element: u32) -> usize {
     element as usize - 1
 }
 
-/// "six words a sample: number, four verdicts in the order above, and 1 if"
-pub const ROW_NUMBER: usize = 0;
-pub const ROW_VERDICTS: usize = 1;
+/// "Output rows have seven words, high and low first" (02 (ii)), then "four
+/// verdicts in the order above, and 1 if".
+pub const ROW_NUMBER_HIGH: usize = 0;
+pub const ROW_NUMBER_LOW: usize = 1;
+pub const ROW_VERDICTS: usize = 2;
 pub const ROW_FLAG: usize = ROW_VERDICTS + CHECKS;
 pub const ROW_WORDS: usize = ROW_FLAG + 1;
+/// "The program prints the whole number as one field" (02 (ii)), and every other
+/// word of a row as one.
+pub const ROW_FIELDS: usize = 1 + (ROW_WORDS - ROW_VERDICTS);
 
-/// "The output is the sample count, then six words a sample."
+/// "The output is the sample count, then" a row for each sample.
 pub const fn answer_words(samples: usize) -> usize {
     COUNT_WORDS + samples * ROW_WORDS
 }
@@ -160,27 +170,38 @@ pub const MOST_BATCH: usize = COUNT_WORDS
     + MOST_CHARTS as usize * MOST_CHART_WORDS
     + COUNT_WORDS
     + MOST_SAMPLES as usize * RECORD_WORDS;
-/// "Bytes not a multiple of 4, or over 45,248, give 8": as many as the longest
+/// "the limit on input bytes becomes 46,848" (02 (ii)): as many as the longest
 /// batch has.
 pub const MOST_BYTES: usize = WORD_BYTES * MOST_BATCH;
 
 /// How many digits a number above 0 has.
-const fn digits(number: u32) -> usize {
+const fn digits(number: u64) -> usize {
     number.ilog10() as usize + 1
 }
 
 /// The longest line of a row: the number's digits, a space and a digit for each
 /// other field, a newline.
-pub const MOST_LINE: usize = digits(MOST_NUMBER) + 2 * (ROW_WORDS - 1) + 1;
-/// The longest text: the line of the sample count, then the rows.
-pub const MOST_TEXT: usize = digits(MOST_SAMPLES) + 1 + MOST_SAMPLES as usize * MOST_LINE;
+pub const MOST_LINE: usize = NUMBER_DIGITS + 2 * (ROW_FIELDS - 1) + 1;
+
+/// The longest text with so many samples, at least one: the line of their
+/// count, then the rows.
+pub const fn text_bytes(samples: usize) -> usize {
+    digits(samples as u64) + 1 + samples * MOST_LINE
+}
+
+/// The longest text.
+pub const MOST_TEXT: usize = text_bytes(MOST_SAMPLES as usize);
 
 // The program `replay`
 
 /// The most words of a case; beyond these it is malformed.
 pub const REPLAY_WORDS: usize = 1_024;
-/// The most words, and the most bytes of text, that a case may lend.
-pub const REPLAY_ROOM: u32 = 256;
+/// The most samples that a case has words for beside two words of its own, as a
+/// listing has, and a batch's two counts.
+pub const REPLAY_SAMPLES: usize = (REPLAY_WORDS - 2 - 2 * COUNT_WORDS) / RECORD_WORDS;
+/// The most words, and the most bytes of text, that a case may lend: enough for
+/// the answer to as many samples as it has words for.
+pub const REPLAY_ROOM: u32 = 320;
 pub const REPLAY_TEXT: u32 = 1_024;
 
 #[cfg(test)]
@@ -189,22 +210,38 @@ mod tests {
 
     #[test]
     fn what_is_worked_out_is_what_the_documents_print() {
-        assert_eq!(RECORD_WORDS, 25);
-        assert_eq!(SAMPLE, 0..2);
+        assert_eq!(RECORD_WORDS, 26);
+        assert_eq!((MOST_NUMBER, NUMBER_DIGITS), (10u64.pow(15) - 1, 15));
+        assert_eq!(WORD_VALUES, 2u64.pow(32));
         assert_eq!((CARBON_LINE, MOST_AMOUNT), (50_000, 2_000_000));
         // Half of the least limit is 4.8828125 tenths of a µg/L.
         assert_eq!((LEAST_BELOW, MOST_BELOW), (5, 1_000_000));
         assert_eq!(f32::from_bits(MOST_BITS), MOST_MILLIGRAMS as f32);
         assert_eq!(f32::from_bits(LEAST_LIMIT_BITS), 2f32.powi(-10));
-        assert_eq!(ROW_WORDS, 6);
-        assert_eq!(MOST_BYTES, 45_248);
+        assert_eq!((ROW_WORDS, ROW_FIELDS), (7, 6));
+        assert_eq!(MOST_BYTES, 46_848);
+    }
+
+    #[test]
+    fn the_longest_line_has_fifteen_digits() {
+        let line = "999999999999999 1 1 1 1 0\n";
+        assert_eq!(MOST_LINE, line.len());
+        assert_eq!(MOST_TEXT, "400\n".len() + 400 * line.len());
+    }
+
+    #[test]
+    fn a_case_lends_enough_for_its_samples() {
+        assert_eq!(REPLAY_SAMPLES, 39);
+        assert_eq!(answer_words(REPLAY_SAMPLES), 274);
+        assert!(answer_words(REPLAY_SAMPLES) <= REPLAY_ROOM as usize);
+        assert!(text_bytes(REPLAY_SAMPLES) <= REPLAY_TEXT as usize);
     }
 
     #[test]
     fn readings_fill_their_words() {
-        assert_eq!((mark_of(AMMONIUM), bits_of(AMMONIUM)), (5, 6));
+        assert_eq!((mark_of(AMMONIUM), bits_of(AMMONIUM)), (6, 7));
         assert_eq!(mark_of(READINGS), READINGS_END);
-        assert_eq!(bits_of(ORGANIC_CARBON), 24);
+        assert_eq!(bits_of(ORGANIC_CARBON), 25);
         assert_eq!(ELEMENTS.map(reading_of).max(), Some(ORGANIC_CARBON));
     }
 }

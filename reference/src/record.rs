@@ -3,16 +3,19 @@
 use crate::hydrogen::Ph;
 use crate::numbers::{
     bits_of, mark_of, reading_of, ALKALINITY, CONDUCTIVITY, ELEMENTS, IONS, KIND, KINDS,
-    MOST_ALKALINITY, MOST_CONDUCTIVITY, MOST_NUMBER, NUMBER, PH, READINGS, RECORD_WORDS, SAMPLE,
+    MOST_ALKALINITY, MOST_CONDUCTIVITY, MOST_NUMBER, NUMBER_HIGH, NUMBER_LOW, PH, READINGS,
+    RECORD_WORDS,
 };
 use crate::readings::Reading;
 use crate::refusals::{self, require, Refusal};
+use crate::sample_number::of_parts;
 
 /// A record that its own tests let pass.
 #[derive(Clone, Debug, PartialEq, Eq)]
 pub struct Record {
     pub words: [u32; RECORD_WORDS],
-    pub number: u32,
+    /// The whole number, of both its words.
+    pub number: u64,
     pub kind: u32,
     pub ph: Ph,
     /// In tenths of µS/cm.
@@ -26,7 +29,7 @@ impl Record {
     /// "A record alone is tested 1 to 7."
     pub fn read(slice: &[u32]) -> Result<Record, Refusal> {
         let words: [u32; RECORD_WORDS] = slice.try_into().map_err(|_| refusals::RECORD_LENGTH)?;
-        let number = words[NUMBER];
+        let number = of_parts(words[NUMBER_HIGH], words[NUMBER_LOW]);
         require((1..=MOST_NUMBER).contains(&number), refusals::SAMPLE_NUMBER)?;
         let kind = words[KIND];
         require(KINDS.contains(&kind), refusals::KIND)?;
@@ -82,21 +85,24 @@ pub fn is_present(slice: &[u32], element: u32) -> bool {
 }
 
 /// What refusal 12 compares: whether both slices are records, with the same
-/// number and the same kind.
+/// whole number and the same kind.
 pub fn is_same_sample(first: &[u32], second: &[u32]) -> bool {
-    let are_records = Record::read(first).is_ok() && Record::read(second).is_ok();
-    are_records && first[SAMPLE] == second[SAMPLE]
+    match (Record::read(first), Record::read(second)) {
+        (Ok(first), Ok(second)) => first.number == second.number && first.kind == second.kind,
+        _ => false,
+    }
 }
 
 #[cfg(test)]
 mod tests {
     use super::*;
     use crate::cases::bottle::Bottle;
-    use crate::numbers::{AMMONIUM, LEAST_PH, MOST_PH, SOIL_WATER, WET_ONLY};
+    use crate::cases::sample_numbers::{edge_parts, others, Parts, ORDERED, REFUSED, TOO_HIGH};
+    use crate::numbers::{AMMONIUM, LEAST_PH, MOST_PH, SOIL_WATER, STEMFLOW, WET_ONLY};
 
     /// One fault for each refusal of a record: the word and what it becomes.
     const FAULTS: [(usize, u32, Refusal); 6] = [
-        (NUMBER, MOST_NUMBER + 1, 2),
+        (NUMBER_HIGH, TOO_HIGH, 2),
         (KIND, SOIL_WATER + 1, 3),
         (PH, LEAST_PH - 1, 4),
         (CONDUCTIVITY, 0, 5),
@@ -127,7 +133,6 @@ mod tests {
     #[test]
     fn ends_of_the_ranges_are_taken() {
         for (word, least, greatest) in [
-            (NUMBER, 1, MOST_NUMBER),
             (KIND, WET_ONLY, SOIL_WATER),
             (PH, LEAST_PH, MOST_PH),
             (CONDUCTIVITY, 1, MOST_CONDUCTIVITY),
@@ -139,5 +144,59 @@ mod tests {
                 assert!(Record::read(&words).is_ok());
             }
         }
+    }
+
+    fn number_of(parts: Parts) -> Result<u64, Refusal> {
+        Record::read(Bottle::printed().parts(parts).words()).map(|record| record.number)
+    }
+
+    #[test]
+    fn the_ends_of_the_numbers() {
+        assert_eq!(number_of((0, 0)), Err(2));
+        assert_eq!(number_of((0, 1)), Ok(1));
+        assert_eq!(number_of((0, u32::MAX)), Ok(4_294_967_295));
+        assert_eq!(number_of((1, 0)), Ok(4_294_967_296));
+        assert_eq!(number_of((232_829, u32::MAX)), Ok(999_997_235_527_679));
+        assert_eq!(number_of((232_830, 0)), Ok(999_997_235_527_680));
+        assert_eq!(number_of((232_830, 2_764_472_319)), Ok(MOST_NUMBER));
+        assert_eq!(number_of((232_830, 2_764_472_320)), Err(2));
+        assert_eq!(number_of((232_831, 0)), Err(2));
+        assert_eq!(number_of((u32::MAX, u32::MAX)), Err(2));
+    }
+
+    #[test]
+    fn a_pair_of_words_is_tested_by_the_number_it_makes() {
+        for (high, low) in edge_parts() {
+            let wide = u128::from(high) * 4_294_967_296 + u128::from(low);
+            let taken = (1..1_000_000_000_000_000).contains(&wide);
+            let expected = if taken { Ok(wide as u64) } else { Err(2) };
+            assert_eq!(number_of((high, low)), expected);
+        }
+    }
+
+    #[test]
+    fn the_number_comes_after_the_length_and_before_the_kind() {
+        for parts in REFUSED {
+            let bottle = Bottle::printed().parts(parts).kind(0);
+            let answer = |words: &[u32]| Record::read(words).map(|_| ());
+            assert_eq!(answer(bottle.words()), Err(2));
+            assert_eq!(answer(&bottle.words()[..RECORD_WORDS - 1]), Err(1));
+            assert_eq!(answer(&[bottle.words(), &[0]].concat()), Err(1));
+        }
+    }
+
+    #[test]
+    fn one_sample_has_one_number_and_one_kind() {
+        for parts in ORDERED {
+            let first = Bottle::printed().parts(parts);
+            let same = |second: &Bottle| is_same_sample(first.words(), second.words());
+            assert!(same(&Bottle::printed().parts(parts).ph(LEAST_PH)));
+            assert!(!same(&first.kind(STEMFLOW)));
+            for other in others(parts) {
+                assert!(!same(&first.parts(other)), "{parts:?} and {other:?}");
+            }
+        }
+        let refused = Bottle::printed().number(MOST_NUMBER + 1);
+        assert!(!is_same_sample(refused.words(), refused.words()));
     }
 }

@@ -3,9 +3,10 @@
 /// "A refusal returns its number, nothing else changes."
 pub type Refusal = u32;
 
-/// "1 record not 25 words."
+/// "1 record not" 26 "words": "Refusals 1, 2 and 12 read accordingly"
+/// (document 02 (ii)).
 pub const RECORD_LENGTH: Refusal = 1;
-/// "2 sample number."
+/// "2 sample number", the whole one.
 pub const SAMPLE_NUMBER: Refusal = 2;
 /// "3 kind."
 pub const KIND: Refusal = 3;
@@ -25,7 +26,8 @@ pub const COUNT: Refusal = 9;
 pub const CHART: Refusal = 10;
 /// "11 docket closed, or one of the open ones named above that no offers produce."
 pub const DOCKET: Refusal = 11;
-/// "12 the count is 1 or 2 and number or kind differs from the record held."
+/// "12 the count is 1 or 2 and number or kind differs from the record held",
+/// the whole number.
 pub const OTHER_SAMPLE: Refusal = 12;
 /// "13 output shorter than the answer."
 pub const OUTPUT: Refusal = 13;

@@ -266,6 +266,9 @@ fn followed(words: &[u32]) -> String {
 #[cfg(test)]
 mod tests {
     use super::*;
+    use crate::cases::batches::{batch, printed_with};
+    use crate::cases::bottle::Bottle;
+    use crate::numbers::{text_bytes, MOST_NUMBER, REPLAY_SAMPLES};
     use crate::words::to_bytes;
 
     fn run(words: &[u32]) -> String {
@@ -279,6 +282,48 @@ mod tests {
         assert_eq!(run(&[9, 0, 9, 1, 0]), "offers\noffers 1 0 0\n");
         assert_eq!(run(&[9, 3, 7, 1, 2]), "offers 1 0 0\n");
         assert_eq!(run(&[16, 0]), "followed 0 0\n");
+    }
+
+    /// The line of one case: the call, what it is lent, and a batch or records.
+    fn run_one(call: u32, head: &[u32], rest: &[u32]) -> String {
+        let count = (head.len() + rest.len()) as u32;
+        run(&[&[call, count], head, rest].concat())
+    }
+
+    /// A whole batch listed.
+    fn list_one(room: u32, batch: &[u32]) -> String {
+        let bytes = WORD_BYTES * batch.len();
+        run_one(13, &[room, bytes as u32], batch)
+    }
+
+    #[test]
+    fn lent_and_held_words_show_high_and_low_apart() {
+        let bottle = Bottle::doubtful().parts((1, 41));
+        let held = run_one(16, &[], bottle.words());
+        assert!(held.starts_with("followed 0 1 1 41 3 500 400 300 1 "));
+        let words = batch(&[], &[Bottle::printed().parts((2, 3))]);
+        let lent = run_one(12, &[9], &words);
+        assert_eq!(lent, "written 8 1 2 3 1 1 1 1 0 900000008\n");
+    }
+
+    #[test]
+    fn a_listing_shows_the_whole_number() {
+        let words = batch(&[], &[Bottle::printed().parts((2, 3))]);
+        let text = "1\n8589934595 1 1 1 1 0\n";
+        let (length, bytes) = (text.len(), spaced(text.as_bytes()));
+        let listed = list_one(length as u32, &words);
+        assert_eq!(listed, format!("listed {length}{bytes}\n"));
+    }
+
+    #[test]
+    fn as_many_samples_as_a_case_has_words_for_are_answered() {
+        let words = batch(&[], &printed_with(vec![MOST_NUMBER; REPLAY_SAMPLES]));
+        let written = run_one(12, &[REPLAY_ROOM], &words);
+        assert!(written.starts_with("written 274 39 232830 2764472319 1 1 1 1 0 "));
+        assert!(written.ends_with(" 900000318 900000319\n"));
+        let listed = list_one(REPLAY_TEXT, &words);
+        let beginning = format!("listed {} 51 57 10 57 ", text_bytes(REPLAY_SAMPLES));
+        assert!(listed.starts_with(&beginning));
     }
 
     #[test]

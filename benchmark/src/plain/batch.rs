@@ -49,7 +49,7 @@ pub fn judge_batch(words: &[u32], out: &mut [u32], floors: &Floors) -> Result<us
     for _ in 0..samples {
         let (words, after) = split(rest, RECORD_WORDS)?;
         let record = Record::read(words)?;
-        answer.push(record.number);
+        answer.extend([(record.number >> 32) as u32, record.number as u32]);
         answer.extend(checks::verdicts(&record, floors));
         let flagged = signalled.iter().any(|&e| record.amounts[e - 1].is_some());
         answer.push(u32::from(flagged));

@@ -3,13 +3,13 @@
 use super::Refusal;
 use crate::numbers::{
     ALKALINITY, BITS, CONDUCTIVITY, FIRST_READING, IONS, KIND, KINDS, LEAST_LIMIT, LEAST_PH, MARK,
-    MOST_ALKALINITY, MOST_BITS, MOST_CONDUCTIVITY, MOST_NUMBER, MOST_PH, NUMBER, PER_MILLIGRAM, PH,
-    READINGS, READINGS_END, READING_WORDS, RECORD_WORDS,
+    MOST_ALKALINITY, MOST_BITS, MOST_CONDUCTIVITY, MOST_NUMBER, MOST_PH, NUMBER_HIGH, NUMBER_LOW,
+    PER_MILLIGRAM, PH, READINGS, READINGS_END, READING_WORDS, RECORD_WORDS,
 };
 
 /// A record that passed its tests.
 pub struct Record {
-    pub number: u32,
+    pub number: u64,
     pub kind: u32,
     pub p: u32,
     pub conductivity: u64,
@@ -41,7 +41,10 @@ fn within(x: u32, least: u32, most: u32, refusal: Refusal) -> Result<u32, Refusa
 impl Record {
     pub fn read(words: &[u32]) -> Result<Record, Refusal> {
         let words: &[u32; RECORD_WORDS] = words.try_into().map_err(|_| 1u32)?;
-        let number = within(words[NUMBER], 1, MOST_NUMBER, 2)?;
+        let number = u64::from(words[NUMBER_HIGH]) << 32 | u64::from(words[NUMBER_LOW]);
+        if !(1..=MOST_NUMBER).contains(&number) {
+            return Err(2);
+        }
         let kind = within(words[KIND], 1, KINDS, 3)?;
         let p = within(words[PH], LEAST_PH, MOST_PH, 4)?;
         let conductivity = u64::from(within(words[CONDUCTIVITY], 1, MOST_CONDUCTIVITY, 5)?);

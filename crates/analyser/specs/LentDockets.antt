@@ -16,7 +16,7 @@ use Rattle.analyser.specs.Codes.{codeOf, andThen}
 use Rattle.analyser.specs.DocketWords.{docketWords, docketFrom}
 
 -- a call for a fresh docket: what it returns, and the lent slice before and after. 'The record in a fresh docket' is left open;
--- it is some 25 words
+-- it is some 26 words
 pub record FreshLent (code : ℕ) (before after : List ℕ) : Type 0 where
   pub docket : DocketTerms
   pub fresh : Fresh docket

@@ -5,7 +5,7 @@ use mathlib.Core.List.{List, [], _∷_, _++_}
 use Prim.Native.Nat.{ℕ, zero, suc, _+_, _*_, _^_, _<_}
 use native.Mathlib.Omega.{arith}
 use lib.Dec.{lit≤}
-use lib.ListN.{length}
+use lib.ListN.{length, length-drop}
 use lib.Seq.{take-at, drop-append-add}
 use Rattle.refusal.specs.Outcome.{Outcome}
 use Rattle.refusal.specs.Outcome.Outcome.{given, refused}
@@ -14,7 +14,7 @@ use Rattle.judge.proofs.Laws.{judged-valid, judged-most}
 use Rattle.words.proofs.TakenLaws.{Every}
 use Rattle.chart_section.specs.ChartSection.{Chart}
 use Rattle.batch.specs.Batches.{Sample, Batch, batchOf}
-use Rattle.batch.specs.Rows.{flagWidth, rowWidths, rowWords, flagged, rowOf, rowsOf, answerOf, answeredBy, batchAnswer, rowAt, rowFields, SmallRow, Listed}
+use Rattle.batch.specs.Rows.{numberWidth, flagWidth, rowWidths, rowWords, flagged, rowOf, rowsOf, answerOf, answeredBy, batchAnswer, rowAt, rowFields, SmallRow, Listed}
 use Rattle.batch.specs.Layout.{ReadsItsLayout}
 use Rattle.batch.proofs.TakenLaws.{Judged, batch-read}
 
@@ -31,7 +31,7 @@ rows-length cs (a ∷ ss) = omega (arith, rows-length cs ss)
 -- as many fields as widths, whatever the words of the row
 pub fields-count : (row : List ℕ) → length row ≡ rowWords → length (rowFields row) ≡ length rowWidths
 unfolding rowFields
-fields-count row h = h
+fields-count row h = omega (arith, length-drop (numberWidth .words) row)
 
 flag-within : (b : Bool) → cond b 1 0 < 10 ^ flagWidth .digits
 flag-within true = lit≤ tt

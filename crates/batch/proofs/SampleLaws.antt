@@ -12,7 +12,7 @@ use Rattle.refusal.specs.Outcome.Outcome.{given, refused}
 use Rattle.refusal.specs.Numbers.{numberOf}
 use Rattle.refusal.specs.declared.Refusal.the-variants as refusal
 use Rattle.record.specs.declared.TestedRecord.{TestedRecord}
-use Rattle.record.specs.Record.{recordWords, mostNumber, hasReading}
+use Rattle.record.specs.Record.{recordWords, hasReading}
 use Rattle.record.specs.Tested.{Fields, fieldsIn, termsOf, OwnTests, hasReadingIn}
 use Rattle.record.proofs.AcceptedLaws.{Valid}
 use Rattle.record.proofs.TestedLaws.{tested-fields, tested-reading}
@@ -53,9 +53,6 @@ module _ (s : List ℕ) (h : recordWords ≤ length s) where
 module _ {w : List ℕ} (own : TestedRecord) (t : OwnTests w own) {v : Four} (e : judgedOf (termsOf own) ≡ given v) where
   valid : Valid w
   valid = judged-valid w v (sym (judged-by-value w t) ∙ e)
-
-  pub number-most : own .number ≤ mostNumber
-  number-most = rw (ap (λ (f : Fields). f .number) (tested-fields t valid)) (valid .number .1)
 
   row-by-value : (es gs : List ℕ) → rowIn own v es gs ≡ rowBy es gs (record { words = w; verdicts = v })
   row-by-value es gs =
@@ -131,8 +128,8 @@ module _ (words : List ℕ) (count : ℕ) (es gs buffer : List ℕ) (at size i :
       let a : Sample = record { words = take recordWords (drop at words); verdicts = v } in
       let here : OwnTests (a .words) own = rw same at t in
       let is : row ≡ rowBy es gs a = r ∙ row-by-value own here e es gs in
-      let six : length row ≡ rowWords = ap length is in
-      let fits : size + length row ≤ length buffer = omega (arith, m .few, m .made, m .room, six) in
+      let whole : length row ≡ rowWords = ap length is in
+      let fits : size + length row ≤ length buffer = omega (arith, m .few, m .made, m .room, whole) in
       let p = put ∙ placed-all buffer size row fits in
       let long : recordWords ≤ length (drop at words) = omega (arith, length-drop at words) in
       record {
@@ -148,7 +145,7 @@ module _ (words : List ℕ) (count : ℕ) (es gs buffer : List ℕ) (at size i :
             ∙ many-next sampleAfter count i (m .before) (drop at words) l (sample-taken (drop at words) long v (sym (judged-by-value (a .words) here) ∙ e))
             ∙ ap (many sampleAfter (count - (i + 1)) (m .before ++ a ∷ [])) (drop-drop recordWords at words);
         rows = ap (take (size + rowWords)) p
-            ∙ ap (λ (n : ℕ). take (size + n) (placed buffer size row)) (sym six)
+            ∙ ap (λ (n : ℕ). take (size + n) (placed buffer size row)) (sym whole)
             ∙ placed-take buffer row size fits
             ∙ ap (λ (t : List ℕ). t ++ row) (m .rows)
             ∙ ap (λ (t : List ℕ). count ∷ (rowsBy es gs (m .before) ++ t)) is

@@ -1,5 +1,6 @@
 -- Document 01, 'A batch': 'The output is the sample count, then six words a sample: number, four verdicts in the order above, and 1
 -- if some chart whose element isn't missing in the sample has a nonzero signal at its last later value, else 0.'
+-- Document 02 (ii): 'Output rows have seven words, high and low first. The program prints the whole number as one field.'
 use mathlib.Core.Path.{_≡_}
 use mathlib.Core.Bool.{Bool, false, _&&_, _||_, not, cond}
 use mathlib.Core.List.{List, [], _∷_, _++_}
@@ -8,6 +9,7 @@ use lib.Dec.{eqb}
 use lib.ListN.{length, getD, take, drop}
 use Rattle.refusal.specs.Outcome.{Outcome}
 use Rattle.refusal.specs.Outcome.Outcome.{given, refused}
+use Rattle.record.specs.Number.{wholeNumber, highPart, lowPart}
 use Rattle.record.specs.Record.{sampleNumber, hasReading}
 use Rattle.judge.specs.Judgements.{Four}
 use Rattle.chart_section.specs.ChartSection.{Chart, signalOf}
@@ -20,9 +22,9 @@ pub record Width : Type 0 where
   pub words : ℕ
   pub digits : ℕ
 
--- 'number': the greatest that a record may have is of six digits
+-- 'high and low first', a number of 'up to 15 digits'
 abbrev pub numberWidth : Width
-numberWidth = record { words = 1; digits = 6 }
+numberWidth = record { words = 2; digits = 15 }
 
 -- a verdict, 0 to 4
 abbrev pub verdictWidth : Width
@@ -41,11 +43,11 @@ abbrev pub wordsIn : List Width → ℕ
 wordsIn [] = 0
 wordsIn (field ∷ rest) = field .words + wordsIn rest
 
--- 'six words a sample'
+-- 'rows have seven words'
 abbrev pub rowWords : ℕ
 rowWords = wordsIn rowWidths
 
--- 'the sample count, then six words a sample': the words of the longest answer
+-- 'the sample count, then' a row a sample: the words of the longest answer
 abbrev pub mostAnswer : ℕ
 mostAnswer = 1 + mostSamples * rowWords
 
@@ -55,9 +57,9 @@ unfoldable pub flagged : List Chart → List ℕ → Bool
 flagged [] w = false
 flagged (c ∷ cs) w = (not (eqb (signalOf c) 0) && hasReading w (c .element)) || flagged cs w
 
--- of a sample's number, verdicts and flag
+-- of a sample's number, verdicts and flag. The two parts of the number are the first two words of the record, by `NumberLaws.apart`
 abbrev pub rowWith : ℕ → Four → Bool → List ℕ
-rowWith number v flag = number ∷ v .balance ∷ v .conductivity ∷ v .ratio ∷ v .nitrogen ∷ cond flag 1 0 ∷ []
+rowWith number v flag = highPart number ∷ lowPart number ∷ v .balance ∷ v .conductivity ∷ v .ratio ∷ v .nitrogen ∷ cond flag 1 0 ∷ []
 
 abbrev pub rowOf : List Chart → Sample → List ℕ
 rowOf cs a = rowWith (sampleNumber (a .words)) (a .verdicts) (flagged cs (a .words))
@@ -83,9 +85,10 @@ batchAnswer s = answeredBy (batchOf s)
 abbrev pub rowAt : List ℕ → ℕ → List ℕ
 rowAt w from = take rowWords (drop from w)
 
--- the fields of a row as they are printed, by its words: each word is one
+-- the fields of a row as they are printed, by its words: 'the whole number as one field', the sample's by `NumberLaws.together`, then
+-- each word is one
 unfoldable pub rowFields : List ℕ → List ℕ
-rowFields row = row
+rowFields row = wholeNumber (getD row 0 0) (getD row 1 0) ∷ drop (numberWidth .words) row
 
 -- as many fields as widths, and none has more digits than its width
 abbrev pub FieldsFit : List Width → List ℕ → Type 0

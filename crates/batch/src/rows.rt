@@ -2,32 +2,33 @@
 use crate::ROW_WORDS;
 use judge::Verdicts;
 use record::TestedRecord;
+use record::number;
 ghost use mathlib.Core.Path.{_≡_};
 ghost use mathlib.Core.Bool.{_&&_, not, cond};
-ghost use Prim.Native.Nat.{_≤_};
 ghost use lib.Dec.{eqb};
 ghost use lib.ListN.{length};
-ghost use Rattle.record.specs.Record.{mostNumber};
 ghost use Rattle.record.specs.Tested.{fieldsIn, hasReadingIn};
 ghost use Rattle.judge.specs.Judgements.{numbersOf};
 ghost use Rattle.batch.specs.Steps.{flaggedBy, rowIn};
 
-// The row of a judged record, whose number fits a word.
+// The row of a judged record.
 pub fn row(
     own: TestedRecord,
     verdicts: Verdicts,
     elements: &[u32],
     signals: &[u32],
 ) -> [u32; ROW_WORDS]
-    requires { ⌜ (own .number ≤ mostNumber) × (length (now elements) ≡ length (now signals)) ⌝ }
+    requires { ⌜ length (now elements) ≡ length (now signals) ⌝ }
     ensures { λ r. ⌜ r ≡ rowIn own (numbersOf verdicts) (now (elements .entry)) (now (signals .entry)) ⌝ }
 {
+    let parts = number::parts_of(own.number);
     let balance = verdicts.balance;
     let conductivity = verdicts.conductivity;
     let ratio = verdicts.ratio;
     let nitrogen = verdicts.nitrogen;
     [
-        own.number as u32,
+        parts.high,
+        parts.low,
         balance.number(),
         conductivity.number(),
         ratio.number(),

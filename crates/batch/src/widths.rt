@@ -1,10 +1,10 @@
 // How wide the fields of a row are: the words that each takes in the answer, and the digits that each has at most. They come in
 // this order.
 
-// The sample number.
-pub const NUMBER_WORDS: usize = 1;
+// The sample number: its high part and its low part, printed as one.
+pub const NUMBER_WORDS: usize = 2;
 
-pub const NUMBER_DIGITS: usize = 6;
+pub const NUMBER_DIGITS: usize = 15;
 
 // Four verdicts.
 pub const VERDICTS: usize = 4;

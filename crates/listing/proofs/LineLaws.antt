@@ -1,12 +1,14 @@
--- Lines from the front: the next field of a row, the next row of many; and rows that other words stand behind.
-use mathlib.Core.Path.{_≡_, refl, sym}
+-- A row's fields by its words. Lines from the front: the next field of a row, the next row of many; and rows that other words stand
+-- behind.
+use mathlib.Core.Path.{_≡_, refl, sym, ap, _∙_}
 use mathlib.Core.List.{List, [], _∷_, _++_}
 use Prim.Native.Nat.{ℕ, zero, suc, _+_, _-_, _*_, _≤_, _<_}
 use native.Mathlib.Numerals.{add-one}
 use native.Mathlib.Omega.{arith}
 use lib.ListN.{length, getD, drop, length-take, length-drop, drop-of-length-le}
-use lib.Seq.{drop-cons, drop-drop, append-snoc, take-append-le, drop-append-le}
-use Rattle.batch.specs.Rows.{rowWidths, rowWords, rowAt, rowFields}
+use lib.Seq.{getD-take, getD-drop, drop-cons, drop-drop, append-snoc, take-append-le, drop-append-le}
+use Rattle.record.specs.Number.{wholeNumber}
+use Rattle.batch.specs.Rows.{numberWidth, rowWidths, rowWords, rowAt, rowFields}
 use Rattle.batch.proofs.Laws.{fields-count}
 use Rattle.listing.specs.Decimal.{decimal}
 use Rattle.listing.specs.Listing.{ending, line, rowLine, rowLines, listingText}
@@ -21,7 +23,22 @@ line-next fields size i e h =
     rw (add-one i, drop-cons fields i 0 (omega arith), after)
     (sym (append-snoc (decimal (getD fields i 0)) (ending (size - 1 - i)) (line (drop (suc i) fields))))
 
--- the fields of a row
+-- the fields of a row, by its words
+module _ (words : List ℕ) (from : ℕ) where
+  word-at : (k at : ℕ) → k < rowWords → at ≡ from + k → getD (rowAt words from) k 0 ≡ getD words at 0
+  word-at k at h e = getD-take rowWords (drop from words) k 0 h ∙ getD-drop from words k 0 ∙ ap (λ (n : ℕ). getD words n 0) (sym e)
+
+  pub number-field : {i : ℕ} → i ≡ 0 → getD (rowFields (rowAt words from)) i 0 ≡ wholeNumber (getD words from 0) (getD words (from + 1) 0)
+  unfolding rowFields
+  number-field e = rw (e, word-at 0 from (omega arith) (omega arith), word-at 1 (from + 1) (omega arith) refl)
+
+  pub later-field : (i : ℕ) → (i ≡ 0 → ⊥) → i < length rowWidths
+      → getD (rowFields (rowAt words from)) i 0 ≡ getD words (from + numberWidth .words + (i - 1)) 0
+  unfolding rowFields
+  later-field zero some h = absurd (some refl)
+  later-field (suc i) some h = getD-drop (numberWidth .words) (rowAt words from) i 0 ∙ word-at (numberWidth .words + i) _ (omega arith) (omega arith)
+
+-- the fields of a row that is whole
 module _ (words : List ℕ) (from : ℕ) (whole : from + rowWords ≤ length words) where
   abbrev fields : List ℕ
   fields = rowFields (rowAt words from)

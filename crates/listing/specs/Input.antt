@@ -1,4 +1,4 @@
--- Document 01, 'A batch': which bytes the listing program reads as the words of a batch.
+-- Document 01, 'A batch', with the limit of document 02 (ii): which bytes the listing program reads as the words of a batch.
 use mathlib.Core.Bool.{Bool, _&&_}
 use mathlib.Core.List.{List}
 use mathlib.Core.Path.{_≡_}
@@ -19,10 +19,10 @@ mostWords = (1 + mostCharts * (headWords + (mostSetup + mostLater))) + (1 + most
 abbrev pub mostBytes : ℕ
 mostBytes = wordBytes * mostWords
 
--- that is document 01's limit, 'over 45,248'
+-- that is document 02's: 'the limit on input bytes becomes 46,848'
 abbrev pub ByteLimit : Type 0
-ByteLimit = mostBytes ≡ 45_248
+ByteLimit = mostBytes ≡ 46_848
 
--- 'Bytes not a multiple of 4, or over 45,248, give 8 before any other test': those that are read
+-- 'Bytes not a multiple of 4, or over' that limit, 'give 8 before any other test': those that are read
 unfoldable pub isInput : List ℕ → Bool
 isInput b = eqb (length b % wordBytes) 0 && leb (length b) mostBytes

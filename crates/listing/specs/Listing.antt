@@ -1,4 +1,4 @@
--- Document 01, 'A batch': the text that the listing program prints of a batch.
+-- Document 01, 'A batch', with the number as document 02 (ii) prints it: the text that the listing program prints of a batch.
 use mathlib.Core.Bool.{cond}
 use mathlib.Core.List.{List, [], _∷_, _++_}
 use Prim.Native.Nat.{ℕ, zero, suc, _+_, _*_, _≤_}
@@ -34,7 +34,7 @@ unfoldable pub line : List ℕ → List ℕ
 line [] = []
 line (field ∷ rest) = decimal field ++ (ending (length rest) ∷ line rest)
 
--- 'a row a line'
+-- 'a row a line', its fields by `rowFields`: 'the whole number as one field'
 unfoldable pub rowLine : List ℕ → List ℕ
 rowLine row = line (rowFields row)
 

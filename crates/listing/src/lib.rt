@@ -1,4 +1,4 @@
-// The text that the listing program prints (document 01, 'A batch'): the bytes of a batch become words, the batch is
+// The text that the listing program prints (document 01, 'A batch', and 02 (ii)): the bytes of a batch become words, the batch is
 // judged, and its answer becomes lines.
 mod decimal;
 mod judging;
@@ -59,7 +59,7 @@ pub fn text_of(bytes: &[u8], text: &mut [u8; MOST_TEXT]) -> usize
 
 // Writes the text of a batch, lent as bytes, to the start of any lent text. Where that is shorter, it is refused and left as
 // it was: the text is made apart, and copied once nothing can be refused any more. The last three promises are that no text
-// is longer than the longest, that digits say their number, and that the limit on bytes is document 01's.
+// is longer than the longest, that digits say their number, and that the limit on bytes is document 02's.
 pub fn list(bytes: &[u8], text: &mut [u8]) -> Written
     ensures answer { λ r. ⌜ writtenOutcome r ≡ lengthOf (fitting (length (now (text .entry))) (given (listText (now (bytes .entry))))) ⌝ }
     ensures lent { λ _. ⌜ now (text .exit) ≡ lentAfter (fitting (length (now (text .entry))) (given (listText (now (bytes .entry))))) (now (text .entry)) ⌝ }

@@ -1,7 +1,9 @@
 // Lines of text: each `put` writes at a place, or at the start, and answers the place after what it wrote.
 use crate::decimal;
 use batch::ROW_WORDS;
+use batch::widths::NUMBER_WORDS;
 use batch::widths::ROW_FIELDS;
+use record::number;
 use refusal::Refusal;
 ghost use mathlib.Core.List.{_++_, _∷_, []};
 ghost use mathlib.Core.Path.{_≡_};
@@ -62,13 +64,18 @@ fn put_row(text: &mut [u8], at: usize, words: &[u32], from: usize) -> usize
     next
 }
 
-// A field of the row that begins at a word.
+// A field of the row that begins at a word: the whole number, or a word after its own.
 fn field(words: &[u32], from: usize, i: usize) -> u64
     requires { ⌜ from + rowWords ≤ length (now words) ⌝ }
     requires { ⌜ i < length rowWidths ⌝ }
     ensures { λ r. ⌜ r ≡ getD (rowFields (rowAt (now (words .entry)) from)) i 0 ⌝ }
 {
-    words[from + i] as u64
+    if i == 0 {
+        let high = words[from];
+        let low = words[from + 1];
+        return number::whole(high, low);
+    }
+    words[from + NUMBER_WORDS + (i - 1)] as u64
 }
 
 // A field, and the byte that ends it, by how many fields come after it on its line.

@@ -1,12 +1,13 @@
--- Document 01, 'Refusals that come from the input' and 'Refusals that come from the state': the number of each.
+-- Document 01, 'Refusals that come from the input' and 'Refusals that come from the state', 1, 2 and 12 as document 02 (ii) reads them:
+-- the number of each.
 use Prim.Native.Nat.{ℕ}
 use Rattle.refusal.specs.declared.Refusal.{Refusal}
 use Rattle.refusal.specs.declared.Refusal.the-variants as refusal
 
 abbrev pub numberOf : Refusal → ℕ
--- from the input: a record is not 25 words long
+-- from the input: a record is not 26 words long
 numberOf refusal.RecordLength = 1
--- the sample number is out of range
+-- the sample number, the whole one, is out of range
 numberOf refusal.SampleNumber = 2
 -- no such kind
 numberOf refusal.Kind = 3
@@ -26,7 +27,7 @@ numberOf refusal.Count = 9
 numberOf refusal.Chart = 10
 -- from the state: the docket is closed, or is one that no offers produce
 numberOf refusal.DocketClosed = 11
--- number or kind differs from the record held
+-- the whole number or the kind differs from the record held
 numberOf refusal.OtherSample = 12
 -- the output is shorter than the answer
 numberOf refusal.OutputLength = 13

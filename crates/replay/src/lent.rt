@@ -8,11 +8,11 @@ ghost use lib.ListN.{length};
 const OLD: u32 = 900000000;
 
 // The most words that are lent.
-pub const MOST_WORDS: usize = 256;
+pub const MOST_WORDS: usize = 320;
 
 // Every word gets another old content, so that one that moved is seen.
 pub fn fill(out: &mut [u32])
-    requires { ⌜ length (now out) ≤ 256 ⌝ }
+    requires { ⌜ length (now out) ≤ 320 ⌝ }
 {
     let mut i: usize = 0;
     while i < out.len() {

@@ -84,14 +84,18 @@ fn simpler_charts(words: &[u32], charts: Vec<Range<usize>>) -> impl Iterator<Ite
     })
 }
 
-/// One sample made simpler, as long as before.
+/// One sample made simpler, as long as before and with no word greater: a
+/// record's words go to the printed sample's and those of a batch to 0, and
+/// without this the two would undo each other for ever.
 fn simpler_samples(
     words: &[u32],
     samples: Vec<Range<usize>>,
 ) -> impl Iterator<Item = Vec<u32>> + '_ {
     samples.into_iter().flat_map(move |part| {
-        smaller_records(&words[part.clone()])
+        let before = &words[part.clone()];
+        smaller_records(before)
             .filter(|sample| sample.len() == RECORD_WORDS)
+            .filter(move |sample| sample.iter().zip(before).all(|(new, old)| new <= old))
             .map(move |sample| replaced(words, &part, &sample))
     })
 }

@@ -6,6 +6,7 @@ use crate::numbers::{
     RECORD_WORDS,
 };
 use crate::random::Draw;
+use crate::sample_numbers::damage_number;
 use reference::cases::generator::Generator;
 
 /// The greatest counts of charts and of a chart's values.
@@ -41,13 +42,14 @@ const WORDS: [u32; 11] = [
 
 /// One damage anywhere in a batch's words.
 pub fn damage(generator: &mut Generator, words: &mut Vec<u32>) {
-    match generator.below(8) {
+    match generator.below(9) {
         0 => generator.flip_bit(words),
         1 => words.truncate(generator.place(words.len() + 1)),
         2 => words.truncate(words.len().saturating_sub(generator.place(4))),
         3 => extend(generator, words),
         4 => any_word(generator, words),
         5 => repeat_an_element(generator, words),
+        6 => renumber_a_sample(generator, words),
         _ => change_a_count(generator, words),
     }
 }
@@ -77,6 +79,14 @@ fn repeat_an_element(generator: &mut Generator, words: &mut [u32]) {
         1 => MOST_ELEMENT + 1,
         _ => words[from],
     };
+}
+
+fn renumber_a_sample(generator: &mut Generator, words: &mut [u32]) {
+    let samples = Layout::of(words).samples;
+    if !samples.is_empty() {
+        let sample = samples[generator.place(samples.len())].clone();
+        damage_number(generator, &mut words[sample]);
+    }
 }
 
 /// A count that is one off or at an end of its range: of a section, of setup

@@ -4,6 +4,7 @@ mod case;
 mod damage;
 mod layout;
 mod listing;
+mod written;
 
 use crate::bottles::any_bottle;
 use crate::case::{Mismatch, Run};
@@ -12,6 +13,7 @@ use crate::numbers::{
     answer_words, MOST_CHARTS, MOST_ELEMENT, MOST_LATER, MOST_SAMPLES, MOST_SETUP, RECORD_WORDS,
 };
 use crate::random::Draw;
+use crate::sample_numbers::{any_number, with_other_high};
 use case::BatchCase;
 use listing::ListCase;
 use reference::cases::batches::{batch, chart};
@@ -25,7 +27,13 @@ const DRAWN: u32 = 150_000;
 const GREATEST: u32 = 100;
 
 pub fn run(run: &mut Run) -> Result<(), Mismatch> {
-    check(run, whole_words(&peltquarry_input()))?;
+    for words in written::all() {
+        check_about(run, &words)?;
+    }
+    for bytes in written::about_the_most_bytes() {
+        check_text_about(run, &bytes)?;
+    }
+    check_about(run, &whole_words(&peltquarry_input()))?;
     for _ in 0..GREATEST {
         let mut words = greatest(&mut run.generator);
         if run.generator.once_in(2) {
@@ -50,6 +58,25 @@ fn check(run: &mut Run, words: Vec<u32>) -> Result<(), Mismatch> {
     run.check(BatchCase { words, room })?;
     let room = room_about(&mut run.generator, listing::text_length(&bytes));
     run.check(ListCase::new(&bytes, room))
+}
+
+/// A batch and its text with the answer's own length lent, one less and one
+/// more.
+fn check_about(run: &mut Run, words: &[u32]) -> Result<(), Mismatch> {
+    let exact = answer_length(words);
+    for room in exact - 1..=exact + 1 {
+        let words = words.to_vec();
+        run.check(BatchCase { words, room })?;
+    }
+    check_text_about(run, &to_bytes(words))
+}
+
+fn check_text_about(run: &mut Run, bytes: &[u8]) -> Result<(), Mismatch> {
+    let exact = listing::text_length(bytes);
+    for room in exact - 1..=exact + 1 {
+        run.check(ListCase::new(bytes, room))?;
+    }
+    Ok(())
 }
 
 /// How many words the answer to a batch has; for a refused one, how many it
@@ -79,8 +106,21 @@ fn drawn(generator: &mut Generator) -> Vec<u32> {
         .iter()
         .map(|&element| chart_words(generator, element))
         .collect();
-    let samples: Vec<Bottle> = (0..samples).map(|_| any_bottle(generator)).collect();
+    let mut samples: Vec<Bottle> = (0..samples).map(|_| any_bottle(generator)).collect();
+    if generator.once_in(4) {
+        samples = alike_in_the_low_word(generator, &samples);
+    }
     batch(&charts, &samples)
+}
+
+/// The samples under numbers that differ in their high words alone.
+fn alike_in_the_low_word(generator: &mut Generator, samples: &[Bottle]) -> Vec<Bottle> {
+    let mut number = any_number(generator);
+    let renumbered = samples.iter().map(|sample| {
+        number = with_other_high(generator, number);
+        sample.number(number)
+    });
+    renumbered.collect()
 }
 
 fn chart_words(generator: &mut Generator, element: u32) -> Vec<u32> {
@@ -114,7 +154,8 @@ fn greatest(generator: &mut Generator) -> Vec<u32> {
 #[cfg(test)]
 mod tests {
     use super::*;
-    use crate::numbers::{COUNT_WORDS, ROW_FLAG, ROW_WORDS};
+    use crate::numbers::{COUNT_WORDS, ROW_FLAG, ROW_NUMBER_HIGH, ROW_NUMBER_LOW, ROW_WORDS};
+    use std::collections::HashSet;
 
     #[test]
     fn every_refusal_of_a_batch_and_its_answer_are_common() {
@@ -143,5 +184,31 @@ mod tests {
             }
         }
         assert!(times.iter().all(|&times| times > 100), "{times:?}");
+    }
+
+    #[test]
+    fn numbers_alike_in_the_low_word_are_common() {
+        let mut generator = Generator::new(19);
+        let mut alike = 0;
+        for answer in (0..1_000).filter_map(|_| crate::answers::batch(&drawn(&mut generator)).ok())
+        {
+            let rows = || answer[COUNT_WORDS..].chunks(ROW_WORDS);
+            let highs: HashSet<u32> = rows().map(|row| row[ROW_NUMBER_HIGH]).collect();
+            let lows: HashSet<u32> = rows().map(|row| row[ROW_NUMBER_LOW]).collect();
+            alike += u32::from(lows.len() == 1 && highs.len() > 1);
+        }
+        assert!(alike > 50, "{alike}");
+    }
+
+    /// Three words short to three over, for an answer of 1 + 7 × 2 words.
+    #[test]
+    fn every_length_about_an_answer_s_is_lent() {
+        let mut generator = Generator::new(20);
+        let exact = answer_words(2);
+        assert_eq!(exact, 15);
+        let rooms: HashSet<usize> = (0..1_000)
+            .map(|_| room_about(&mut generator, exact))
+            .collect();
+        assert!((exact - 3..=exact + 3).all(|room| rooms.contains(&room)));
     }
 }

@@ -12,6 +12,7 @@ use crate::numbers::{
 use crate::outcome::Outcome;
 use crate::random::Draw;
 use crate::records::{damaged, describe_record, smaller_records};
+use crate::sample_numbers::damage_number;
 use crate::shrink::{simpler_room, simpler_words};
 use reference::cases::bottle::Bottle;
 use reference::cases::generator::Generator;
@@ -71,6 +72,7 @@ fn held(generator: &mut Generator, bottle: &Bottle) -> Vec<u32> {
         0 => damaged(generator),
         1 => other_sample(generator, bottle).words().to_vec(),
         2 => vec![0; RECORD_WORDS],
+        3 => renumbered(generator, bottle),
         _ => bottle.words().to_vec(),
     };
     if generator.once_in(10) {
@@ -80,11 +82,19 @@ fn held(generator: &mut Generator, bottle: &Bottle) -> Vec<u32> {
     words
 }
 
+/// The same record under two other words for its number, whatever they make.
+fn renumbered(generator: &mut Generator, bottle: &Bottle) -> Vec<u32> {
+    let mut words = bottle.words().to_vec();
+    damage_number(generator, &mut words);
+    words
+}
+
 fn offered(generator: &mut Generator, bottle: &Bottle) -> Vec<u32> {
     match generator.below(10) {
         0 => damaged(generator),
         1 => other_sample(generator, bottle).words().to_vec(),
         2 => super::consistent(bottle).words().to_vec(),
+        3 => renumbered(generator, bottle),
         _ => repeated(generator, bottle).words().to_vec(),
     }
 }
@@ -150,5 +160,55 @@ impl HandedIn {
             smaller.offer = simpler;
             Some(smaller)
         })
+    }
+}
+
+#[cfg(test)]
+mod tests {
+    use super::*;
+    use crate::numbers::{MOST_NUMBER, NUMBER_HIGH, NUMBER_LOW};
+    use crate::sample_numbers::number_of;
+    use reference::record::Record;
+    use reference::refusals::{DOCKET, OTHER_SAMPLE, SAMPLE_NUMBER};
+
+    /// Open dockets with a count of 1 or 2 whose record has a number that no
+    /// record may have, and with one that differs from the offered one in one
+    /// word alone; offers under such a number.
+    #[test]
+    fn numbers_go_wrong_in_the_docket_and_in_the_offer() {
+        let mut generator = Generator::new(17);
+        let (mut held_refused, mut one_word, mut offer_refused) = (0, [0; 2], 0);
+        for _ in 0..40_000 {
+            let HandedIn { docket, offer } = HandedIn::drawn(&mut generator);
+            let answer = answers::offer(&docket, &offer);
+            offer_refused += u32::from(answer == Err(SAMPLE_NUMBER));
+            let Some((&[0, 1 | 2], held)) = docket.split_first_chunk() else {
+                continue;
+            };
+            let beyond = held.len() > NUMBER_LOW && !(1..=MOST_NUMBER).contains(&number_of(held));
+            held_refused += u32::from(answer == Err(DOCKET) && beyond);
+            if answer == Err(OTHER_SAMPLE) && Record::read(&held[..RECORD_WORDS]).is_ok() {
+                let same = [NUMBER_HIGH, NUMBER_LOW].map(|place| held[place] == offer[place]);
+                one_word[0] += u32::from(same == [false, true]);
+                one_word[1] += u32::from(same == [true, false]);
+            }
+        }
+        assert!(held_refused > 500 && offer_refused > 500);
+        assert!(one_word.iter().all(|&times| times > 500), "{one_word:?}");
+    }
+
+    /// A word short, exact, one and two words over.
+    #[test]
+    fn lengths_beside_a_docket_s_are_common() {
+        let mut generator = Generator::new(18);
+        let about = DOCKET_WORDS - 1..=DOCKET_WORDS + 2;
+        let mut times = [0; 4];
+        for _ in 0..20_000 {
+            let length = HandedIn::drawn(&mut generator).docket.len();
+            if about.contains(&length) {
+                times[length - about.start()] += 1;
+            }
+        }
+        assert!(times.iter().all(|&times| times > 30), "{times:?}");
     }
 }

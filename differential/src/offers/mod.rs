@@ -9,12 +9,13 @@ use crate::bottles::{any_bottle, trace};
 use crate::case::{Mismatch, Run};
 use crate::floats::any_reading;
 use crate::numbers::{
-    CALCIUM, CHLORIDE, DOCKET_WORDS, FIRST_READING, KIND, MAGNESIUM, MOST_DOCKET_ROOM, MOST_NUMBER,
-    NUMBER, POTASSIUM, RECORD_WORDS, SODIUM, SOIL_WATER, SULPHATE,
+    CALCIUM, CHLORIDE, DOCKET_WORDS, KIND, MAGNESIUM, MOST_DOCKET_ROOM, POTASSIUM, RANGES,
+    RECORD_WORDS, SODIUM, SOIL_WATER, SULPHATE,
 };
 use crate::on_the_limit::bottle_on_a_limit;
 use crate::random::Draw;
 use crate::records::damaged;
+use crate::sample_numbers::{any_number, damage_number, number_of, other_number};
 use followed::Followed;
 use handed_in::HandedIn;
 use reference::cases::bottle::Bottle;
@@ -47,14 +48,15 @@ fn long_enough(generator: &mut Generator) -> usize {
 }
 
 /// A bottle to begin with: mostly one that isn't consistent, as a consistent
-/// one closes its docket at once.
+/// one closes its docket at once. Any of them may have any number.
 fn first_bottle(generator: &mut Generator) -> Bottle {
-    match generator.below(100) {
+    let bottle = match generator.below(100) {
         0..=24 => Bottle::doubtful(),
         25..=39 => doubtful_traces(generator),
         40..=42 => bottle_on_a_limit(generator).unwrap_or_else(Bottle::doubtful),
         _ => any_bottle(generator),
-    }
+    };
+    bottle.number(any_number(generator))
 }
 
 /// The doubtful bottle with traces of all ions but the two that its nitrogen
@@ -72,7 +74,7 @@ fn doubtful_traces(generator: &mut Generator) -> Bottle {
 /// and kind.
 fn consistent(bottle: &Bottle) -> Bottle {
     let words = bottle.words();
-    Bottle::printed().number(words[NUMBER]).kind(words[KIND])
+    Bottle::printed().number(number_of(words)).kind(words[KIND])
 }
 
 /// One sample analysed again and again, with offers in between that are
@@ -107,35 +109,40 @@ fn next_analysis(generator: &mut Generator, bottles: &[Bottle]) -> Bottle {
     }
 }
 
-/// A repeat that is cut short or too long, or has a word out of its range.
+/// A repeat that is cut short or too long, has a word out of its range or a
+/// number that something happened to.
 fn damaged_repeat(generator: &mut Generator, bottle: &Bottle) -> Vec<u32> {
     let mut words = repeated(generator, bottle).words().to_vec();
-    match generator.below(3) {
+    match generator.below(4) {
         0 => words.truncate(generator.place(RECORD_WORDS)),
         1 => words.push(0),
-        _ => words[generator.place(FIRST_READING)] = generator.pick(&[0, 300_000_000]),
+        2 => damage_number(generator, &mut words),
+        _ => {
+            let (place, _, _) = generator.pick(&RANGES);
+            words[place] = generator.pick(&[0, 300_000_000]);
+        }
     }
     words
 }
 
 /// The same analysis under another number or kind, or both.
 fn other_sample(generator: &mut Generator, bottle: &Bottle) -> Bottle {
-    let words = bottle.words();
-    let next_number = words[NUMBER] % MOST_NUMBER + 1;
-    let next_kind = words[KIND] % SOIL_WATER + 1;
-    match generator.below(3) {
-        0 => bottle.number(next_number),
-        1 => bottle.kind(next_kind),
-        _ => bottle.number(next_number).kind(next_kind),
+    let other_number = other_number(generator, number_of(bottle.words()));
+    let next_kind = bottle.words()[KIND] % SOIL_WATER + 1;
+    match generator.below(4) {
+        0 => bottle.kind(next_kind),
+        1 => bottle.number(other_number).kind(next_kind),
+        _ => bottle.number(other_number),
     }
 }
 
 #[cfg(test)]
 mod tests {
     use super::*;
-    use crate::numbers::{IONS, MOST_TRACE};
+    use crate::numbers::{IONS, MOST_TRACE, NUMBER_HIGH, NUMBER_LOW};
     use reference::docket::PlainDocket;
     use reference::record::Record;
+    use reference::refusals::OTHER_SAMPLE;
 
     #[test]
     fn every_course_is_common() {
@@ -161,6 +168,34 @@ mod tests {
                 "{dockets:?}"
             );
         }
+    }
+
+    /// Offers that a docket refuses with 12 differ from its record in the high
+    /// word alone, in the low word alone, in the order of both words, in the
+    /// kind alone, in number and kind.
+    #[test]
+    fn other_samples_differ_in_every_way() {
+        let mut generator = Generator::new(16);
+        let mut ways = [0; 5];
+        for _ in 0..20_000 {
+            let mut plain = PlainDocket::new();
+            for offer in list(&mut generator) {
+                let Err(OTHER_SAMPLE) = plain.offer(&offer) else {
+                    continue;
+                };
+                let held = plain.last().expect("a record");
+                let differs =
+                    [NUMBER_HIGH, NUMBER_LOW, KIND].map(|place| offer[place] != held[place]);
+                let is_swapped = offer[NUMBER_HIGH] == held[NUMBER_LOW]
+                    && offer[NUMBER_LOW] == held[NUMBER_HIGH];
+                ways[0] += u32::from(differs == [true, false, false]);
+                ways[1] += u32::from(differs == [false, true, false]);
+                ways[2] += u32::from(differs == [true, true, false] && is_swapped);
+                ways[3] += u32::from(differs == [false, false, true]);
+                ways[4] += u32::from((differs[0] || differs[1]) && differs[2]);
+            }
+        }
+        assert!(ways.iter().all(|&times| times > 50), "{ways:?}");
     }
 
     /// By how much ten times the difference of two amounts is above the larger:

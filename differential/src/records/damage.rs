@@ -3,6 +3,7 @@
 use crate::bottles::any_bottle;
 use crate::numbers::{bits_of, mark_of, LONGEST_RECORD, RANGES, READINGS, RECORD_WORDS};
 use crate::random::Draw;
+use crate::sample_numbers::damage_number;
 use reference::cases::generator::Generator;
 use reference::cases::readings::EDGES;
 
@@ -19,7 +20,7 @@ fn damage(generator: &mut Generator, words: &mut Vec<u32>) {
     if words.len() < RECORD_WORDS {
         return generator.flip_bit(words);
     }
-    match generator.below(12) {
+    match generator.below(14) {
         0 => words[generator.place(RECORD_WORDS)] = generator.word(),
         1 => words[generator.place(RECORD_WORDS)] = generator.pick(&[0, 1, 2, 3, u32::MAX]),
         2 => words.swap(generator.place(RECORD_WORDS), generator.place(RECORD_WORDS)),
@@ -30,11 +31,12 @@ fn damage(generator: &mut Generator, words: &mut Vec<u32>) {
         }
         5 | 6 => end_of_a_range(generator, words),
         7..=9 => edge_of_a_reading(generator, words),
+        10 | 11 => damage_number(generator, words),
         _ => generator.flip_bit(words),
     }
 }
 
-/// A word before the readings on an end of its range or one beside.
+/// A word with a range of its own on an end of that or one beside.
 fn end_of_a_range(generator: &mut Generator, words: &mut [u32]) {
     let (place, least, greatest) = generator.pick(&RANGES);
     let beside = generator.below(3);
@@ -69,5 +71,20 @@ mod tests {
             times[refusal as usize] += 1;
         }
         assert!(times.iter().all(|&times| times > 100), "{times:?}");
+    }
+
+    /// A word short, exact and a word over.
+    #[test]
+    fn lengths_beside_a_record_s_are_common() {
+        let mut generator = Generator::new(15);
+        let about = RECORD_WORDS - 1..=RECORD_WORDS + 1;
+        let mut times = [0; 3];
+        for _ in 0..20_000 {
+            let length = damaged(&mut generator).len();
+            if about.contains(&length) {
+                times[length - about.start()] += 1;
+            }
+        }
+        assert!(times.iter().all(|&times| times > 500), "{times:?}");
     }
 }

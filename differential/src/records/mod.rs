@@ -30,12 +30,12 @@ const NEIGHBOURS: u32 = 25;
 const DAMAGED: u32 = 1_000_000;
 
 pub fn run(run: &mut Run) -> Result<(), Mismatch> {
+    for words in written::all() {
+        check(run, &words)?;
+    }
     for _ in 0..DRAWN {
         let bottle = any_bottle(&mut run.generator);
         check(run, bottle.words())?;
-    }
-    for words in written::all() {
-        check(run, &words)?;
     }
     flips(run)?;
     on_the_limit(run)?;

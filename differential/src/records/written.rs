@@ -1,22 +1,30 @@
-//! Records written down: every tie, and the limits of Na/Cl, nitrogen and
-//! organic carbon exactly, and chloride next to none.
+//! Records written down: every tie, the limits of Na/Cl, nitrogen, organic
+//! carbon and the sample number exactly, and chloride next to none.
 
 use crate::floats::ends;
 use crate::numbers::{
     AMMONIUM, CARBON_LINE, CHLORIDE, LEAST_LIMIT_BITS, MOST_AMOUNT, MOST_BITS, NITRATE,
     ORGANIC_CARBON, SODIUM, SOIL_WATER, TOTAL_NITROGEN, WET_ONLY,
 };
+use crate::sample_numbers;
 use reference::cases::bottle::Bottle;
 use reference::cases::floats::{limit_of, ties, DOUBLE};
 use reference::readings::Reading;
 
 pub fn all() -> Vec<Vec<u32>> {
-    let bottles = ties_in_nitrogen()
+    let bottles = numbers()
+        .chain(ties_in_nitrogen())
         .chain(exact_ratios())
         .chain(little_chloride())
         .chain(nitrogen_sums())
         .chain(organic_carbon());
     bottles.map(|bottle| bottle.words().to_vec()).collect()
+}
+
+/// The printed sample under every number that is written down.
+fn numbers() -> impl Iterator<Item = Bottle> {
+    let numbers = sample_numbers::written().into_iter();
+    numbers.map(|number| Bottle::printed().number(number))
 }
 
 fn amount(bits: u32) -> u32 {

@@ -6,8 +6,8 @@ use super::generator::Generator;
 use super::Cases;
 use crate::numbers::{
     ALKALINITY, CALCIUM, CHLORIDE, CONDUCTIVITY, IONS, LEAST_BELOW, LEAST_LIMIT_BITS, LEAST_PH,
-    MOST_ALKALINITY, MOST_AMOUNT, MOST_CONDUCTIVITY, MOST_PH, ORGANIC_CARBON, PH, POTASSIUM,
-    READINGS, RECORD_WORDS, RUNOFF, SOIL_WATER,
+    MOST_ALKALINITY, MOST_AMOUNT, MOST_CONDUCTIVITY, MOST_NUMBER, MOST_PH, ORGANIC_CARBON, PH,
+    POTASSIUM, READINGS, RECORD_WORDS, RUNOFF, SOIL_WATER,
 };
 
 /// Asks both ways round.
@@ -51,6 +51,7 @@ fn whole_words(cases: &mut Cases) {
     let bottle = Bottle::doubtful();
     compare(cases, &bottle, &bottle);
     compare(cases, &bottle, &bottle.number(42));
+    compare(cases, &bottle, &bottle.number(MOST_NUMBER));
     compare(cases, &bottle, &bottle.kind(RUNOFF));
     for (first, second) in [
         (500, 510),
@@ -156,7 +157,7 @@ fn missing_and_below(cases: &mut Cases) {
 fn refused(cases: &mut Cases) {
     let bottle = Bottle::doubtful();
     let faulty = [
-        bottle.number(0),
+        bottle.number(MOST_NUMBER + 1),
         bottle.kind(SOIL_WATER + 1),
         bottle.ph(MOST_PH + 1),
         bottle.conductivity(0),

@@ -3,12 +3,13 @@
 use super::bottle::{plausible, Bottle};
 use super::charts::BEYOND_WHOLE;
 use super::generator::Generator;
+use super::sample_numbers::{ends_of_every_count, mixed, swapped, ORDERED, REFUSED};
 use super::Cases;
 use crate::numbers::{
     answer_words, reading_of, AMMONIUM, CHART_ELEMENT, CHART_HEAD, CHART_LATER, CHART_SETUP,
-    COUNT_WORDS, LEAST_LIMIT_BITS, LEAST_SETUP, MOST_ALKALINITY, MOST_CHARTS, MOST_LATER, MOST_PH,
+    LEAST_LIMIT_BITS, LEAST_SETUP, MOST_ALKALINITY, MOST_CHARTS, MOST_LATER, MOST_NUMBER, MOST_PH,
     MOST_SAMPLES, MOST_SETUP, MOST_VALUE, ORGANIC_CARBON, POTASSIUM, READINGS, RECORD_WORDS,
-    REPLAY_ROOM, REPLAY_WORDS, SOIL_WATER,
+    REPLAY_ROOM, REPLAY_SAMPLES, SOIL_WATER,
 };
 use std::slice::from_ref;
 
@@ -64,6 +65,7 @@ pub fn all(cases: &mut Cases) {
     competing_across_parts(cases);
     competing_at_the_end(cases);
     flags(cases);
+    numbers(cases);
     rooms(cases);
     scattered(cases);
 }
@@ -292,6 +294,38 @@ fn flags(cases: &mut Cases) {
     }
 }
 
+/// The printed sample once for each of these numbers.
+pub fn printed_with(numbers: impl IntoIterator<Item = u64>) -> Vec<Bottle> {
+    let bottle = |number| Bottle::printed().number(number);
+    numbers.into_iter().map(bottle).collect()
+}
+
+/// Bottles for batches of one sample: numbers of every count of digits, with
+/// short low words and at the edges, also beyond them, and words in both orders.
+pub fn single_numbers() -> Vec<Bottle> {
+    let mut bottles = printed_with(mixed());
+    bottles.extend(printed_with([0, MOST_NUMBER + 1, MOST_NUMBER + 2]));
+    for parts in ORDERED {
+        bottles.extend([parts, swapped(parts)].map(|parts| Bottle::printed().parts(parts)));
+    }
+    bottles
+}
+
+/// One number in a batch, many in one, and numbers that are none after one that
+/// is good, with no room for an answer.
+fn numbers(cases: &mut Cases) {
+    for bottle in single_numbers() {
+        add(cases, answer_words(1), &batch(&[], &[bottle]));
+    }
+    for samples in [printed_with(mixed()), printed_with(ends_of_every_count())] {
+        add(cases, answer_words(samples.len()), &batch(&[], &samples));
+    }
+    let good = Bottle::printed().number(MOST_NUMBER);
+    for parts in REFUSED {
+        add(cases, 0, &batch(&[], &[good.clone(), good.parts(parts)]));
+    }
+}
+
 fn rooms(cases: &mut Cases) {
     for samples in [0, 1, 2, 5] {
         let batch = batch(&[], &vec![Bottle::printed(); samples]);
@@ -300,12 +334,10 @@ fn rooms(cases: &mut Cases) {
             add(cases, room, &batch);
         }
     }
-    // As many samples as a case has words for beside the room and both counts.
-    let most = (REPLAY_WORDS - 1 - 2 * COUNT_WORDS) / RECORD_WORDS;
-    let numbers = (1..).take(most);
-    let many: Vec<Bottle> = numbers.map(|n| Bottle::printed().number(n)).collect();
+    // As many samples as a case has words for.
+    let many = printed_with((1..).take(REPLAY_SAMPLES));
     add(cases, REPLAY_ROOM as usize, &batch(&[], &many));
-    add(cases, answer_words(most) - 1, &batch(&[], &many));
+    add(cases, answer_words(REPLAY_SAMPLES) - 1, &batch(&[], &many));
 }
 
 fn scattered_chart(generator: &mut Generator, element: u32) -> Vec<u32> {

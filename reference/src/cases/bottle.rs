@@ -2,16 +2,18 @@
 
 use super::floats::{float_of, limit_of};
 use super::generator::Generator;
+use super::sample_numbers::{drawn, Parts};
 use crate::hydrogen::Ph;
 use crate::ions::{
     alkalinity_charge, charge, ALKALINITY_CONDUCTANCE, ANIONS, CATIONS, HYDROGEN_CONDUCTANCE, TABLE,
 };
 use crate::numbers::{
     bits_of, mark_of, ALKALINITY, AMMONIUM, BULK, CHLORIDE, CONDUCTIVITY, CONDUCTIVITY_TENTH, IONS,
-    KIND, LEAST_BELOW, LEAST_PH, MOST_BELOW, MOST_CONDUCTIVITY, MOST_NUMBER, MOST_PH, NITRATE,
-    NUMBER, ORGANIC_CARBON, PH, READINGS, RECORD_WORDS, SODIUM, SOIL_WATER, THROUGHFALL,
+    KIND, LEAST_BELOW, LEAST_PH, MOST_BELOW, MOST_CONDUCTIVITY, MOST_PH, NITRATE, NUMBER_HIGH,
+    NUMBER_LOW, ORGANIC_CARBON, PH, READINGS, RECORD_WORDS, SODIUM, SOIL_WATER, THROUGHFALL,
     TOTAL_NITROGEN, WET_ONLY,
 };
+use crate::sample_number::parts_of;
 
 /// The words of a record, which its own tests may refuse.
 #[derive(Clone, Debug, PartialEq, Eq)]
@@ -20,7 +22,7 @@ pub struct Bottle {
 }
 
 impl Bottle {
-    /// "The printed sample" of document 01.
+    /// "The printed sample" of document 01, with a high word of 0 in front.
     pub fn printed() -> Bottle {
         let floats = [
             0x3E80_0000,
@@ -81,8 +83,13 @@ impl Bottle {
         bottle
     }
 
-    pub fn number(&self, number: u32) -> Bottle {
-        self.word(NUMBER, number)
+    pub fn number(&self, number: u64) -> Bottle {
+        self.parts(parts_of(number))
+    }
+
+    /// Both words of the number, whatever number they make.
+    pub fn parts(&self, (high, low): Parts) -> Bottle {
+        self.word(NUMBER_HIGH, high).word(NUMBER_LOW, low)
     }
 
     pub fn kind(&self, kind: u32) -> Bottle {
@@ -208,7 +215,7 @@ impl Draft {
 
     fn bottle(&self, generator: &mut Generator) -> Bottle {
         let mut bottle = Bottle::without_readings()
-            .number(generator.between(1, MOST_NUMBER))
+            .number(drawn(generator))
             .kind(generator.between(WET_ONLY, SOIL_WATER))
             .ph(self.ph)
             .conductivity(self.conductivity)

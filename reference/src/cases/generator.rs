@@ -34,6 +34,12 @@ impl Generator {
         least + self.below(greatest - least + 1)
     }
 
+    /// The same for numbers wider than a word. Their ranges are so much smaller
+    /// than 2^64 that the remainder favours none of them noticeably.
+    pub fn wide_between(&mut self, least: u64, greatest: u64) -> u64 {
+        least + self.next() % (greatest - least + 1)
+    }
+
     /// True once in `times` on average.
     pub fn once_in(&mut self, times: u32) -> bool {
         self.below(times) == 0

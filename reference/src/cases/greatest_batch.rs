@@ -1,12 +1,13 @@
 //! The input of the listing program: a batch at its greatest, with as many
-//! charts, values and samples as there may be.
+//! charts, values and samples as there may be, and with the longest text.
 
 use super::batches::{batch, chart};
 use super::bottle::{plausible, Bottle};
 use super::generator::Generator;
 use super::undecided::{undecided_balance, undecided_conductivity};
 use crate::numbers::{
-    reading_of, MOST_CHARTS, MOST_LATER, MOST_SAMPLES, MOST_SETUP, MOST_VALUE, SOIL_WATER,
+    reading_of, MOST_CHARTS, MOST_LATER, MOST_NUMBER, MOST_SAMPLES, MOST_SETUP, MOST_VALUE,
+    NUMBER_DIGITS, SOIL_WATER,
 };
 use crate::words::to_bytes;
 
@@ -29,7 +30,7 @@ pub fn peltquarry_input() -> Vec<u8> {
     // Verdict 3 is so rare that it has to be put in.
     for (place, undecided) in [(123, undecided_balance()), (321, undecided_conductivity())] {
         if let Some(bottle) = undecided {
-            samples[place] = bottle.number(place as u32 + 1);
+            samples[place] = bottle.number(number_of(place as u32));
         }
     }
     to_bytes(&batch(&charts, &samples))
@@ -59,11 +60,19 @@ fn greatest_chart(generator: &mut Generator, element: u32) -> Vec<u32> {
     chart(element, &setup, &later)
 }
 
+/// Numbers in the order of the samples, all of them as long as there may be and
+/// with a high word of their own; the last is the greatest.
+fn number_of(index: u32) -> u64 {
+    const LEAST: u64 = 10u64.pow(NUMBER_DIGITS as u32 - 1);
+    const STEP: u64 = (MOST_NUMBER - LEAST) / (MOST_SAMPLES as u64 - 1);
+    MOST_NUMBER - STEP * u64::from(MOST_SAMPLES - 1 - index)
+}
+
 /// Plausible samples of every kind; some lack all the elements whose charts
 /// end with a signal, some all but one of these.
 fn sample(generator: &mut Generator, index: u32) -> Bottle {
     let mut bottle = plausible(generator)
-        .number(index + 1)
+        .number(number_of(index))
         .kind(index % SOIL_WATER + 1);
     let spared = match index % 8 {
         0 => None,
@@ -82,11 +91,22 @@ fn sample(generator: &mut Generator, index: u32) -> Bottle {
 mod tests {
     use super::*;
     use crate::listing;
-    use crate::numbers::{CHECKS, MOST_BYTES};
+    use crate::numbers::{CHECKS, MOST_BYTES, MOST_TEXT};
+    use crate::sample_number::parts_of;
 
     #[test]
     fn the_batch_is_at_its_greatest() {
         assert_eq!(peltquarry_input().len(), MOST_BYTES);
+        assert_eq!(listing::text(&peltquarry_input()).len(), MOST_TEXT);
+    }
+
+    #[test]
+    fn every_sample_has_a_high_word_of_its_own() {
+        let highs: Vec<u32> = (0..MOST_SAMPLES)
+            .map(|index| parts_of(number_of(index)).0)
+            .collect();
+        assert!(highs.windows(2).all(|pair| pair[0] < pair[1]));
+        assert_eq!(number_of(MOST_SAMPLES - 1), MOST_NUMBER);
     }
 
     #[test]

@@ -1,11 +1,17 @@
 //! Call 13: the listing program's text.
 
-use super::batches::{batch, chart, charts_counted, flat, samples_counted, small};
+use super::batches::{
+    batch, chart, charts_counted, flat, printed_with, samples_counted, single_numbers, small,
+};
 use super::bottle::{plausible, Bottle};
 use super::generator::Generator;
+use super::sample_numbers::{ends_of_every_count, mixed};
 use super::Cases;
 use crate::listing::text;
-use crate::numbers::{AMMONIUM, MOST_ALKALINITY, MOST_CHARTS, READINGS, REPLAY_TEXT, WORD_BYTES};
+use crate::numbers::{
+    text_bytes, AMMONIUM, MOST_ALKALINITY, MOST_CHARTS, MOST_NUMBER, READINGS, REPLAY_SAMPLES,
+    REPLAY_TEXT, WORD_BYTES,
+};
 use crate::words::to_bytes;
 
 /// The listing of the first `length` bytes of these words.
@@ -26,6 +32,7 @@ fn text_length(words: &[u32]) -> u32 {
 pub fn all(cases: &mut Cases) {
     lengths(cases);
     printed(cases);
+    numbers(cases);
     refused(cases);
     scattered(cases);
 }
@@ -61,6 +68,27 @@ fn printed(cases: &mut Cases) {
     }
 }
 
+/// Numbers of 1 to 15 digits, one in a text and many; as many of 15 as a case
+/// has words for, which is the longest text of one.
+fn numbers(cases: &mut Cases) {
+    for bottle in single_numbers() {
+        add_whole(cases, text_bytes(1) as u32, &batch(&[], &[bottle]));
+    }
+    let greatest = printed_with((0..=MOST_NUMBER).rev().take(REPLAY_SAMPLES));
+    for samples in [
+        printed_with(mixed()),
+        printed_with(ends_of_every_count()),
+        greatest,
+    ] {
+        add_whole(cases, REPLAY_TEXT, &batch(&[], &samples));
+    }
+    let one = batch(&[], &printed_with([MOST_NUMBER]));
+    let exact = text_length(&one);
+    for room in [exact - 1, exact, exact + 1] {
+        add_whole(cases, room, &one);
+    }
+}
+
 /// `refused N` is an answer, too: for the numbers 2 to 10.
 fn refused(cases: &mut Cases) {
     let printed = Bottle::printed();
@@ -82,15 +110,17 @@ fn refused(cases: &mut Cases) {
     }
 }
 
+/// The most samples of a text drawn at random.
+const MOST_SCATTERED: usize = 30;
+
 fn scattered(cases: &mut Cases) {
     let mut generator = Generator::new(901);
     for _ in 0..20 {
-        let samples: Vec<Bottle> = (0..generator.between(1, 30))
+        let samples: Vec<Bottle> = (0..generator.between(1, MOST_SCATTERED as u32))
             .map(|_| plausible(&mut generator))
             .collect();
         let loud = chart(generator.between(1, READINGS as u32), &flat(), &[1_001]);
         let words = batch(&[loud], &samples);
-        // More than thirty rows need.
-        add_whole(cases, 640, &words);
+        add_whole(cases, text_bytes(MOST_SCATTERED) as u32, &words);
     }
 }

@@ -15,6 +15,7 @@ pub mod one_bottle;
 pub mod questions;
 pub mod readings;
 pub mod records;
+pub mod sample_numbers;
 pub mod solver;
 pub mod undecided;
 
@@ -76,7 +77,7 @@ mod tests {
     #[test]
     fn only_the_last_case_is_malformed() {
         let input = super::replay_input();
-        assert!(input.len() < 1_500_000, "{} bytes", input.len());
+        assert!(input.len() < 1_600_000, "{} bytes", input.len());
         let text = replay::text(&input);
         let malformed = text.lines().filter(|line| *line == "malformed").count();
         assert_eq!(malformed, 1);

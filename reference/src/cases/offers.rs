@@ -3,12 +3,13 @@
 use super::agreement::repeated;
 use super::bottle::{plausible, Bottle};
 use super::generator::Generator;
+use super::sample_numbers::{others, swapped, ORDERED};
 use super::undecided::undecided_conductivity;
 use super::Cases;
 use crate::numbers::{
-    mark_of, AMMONIUM, CALCIUM, CHLORIDE, FIRST_READING, KIND, LEAST_PH, MOST_ALKALINITY,
-    MOST_NUMBER, NUMBER, ORGANIC_CARBON, POTASSIUM, RECORD_WORDS, SODIUM, SOIL_WATER, STEMFLOW,
-    THROUGHFALL, TOTAL_NITROGEN,
+    mark_of, ALKALINITY, AMMONIUM, CALCIUM, CHLORIDE, CONDUCTIVITY, KIND, LEAST_PH,
+    MOST_ALKALINITY, NUMBER_HIGH, NUMBER_LOW, ORGANIC_CARBON, PH, POTASSIUM, RECORD_WORDS, SODIUM,
+    SOIL_WATER, STEMFLOW, THROUGHFALL, TOTAL_NITROGEN,
 };
 
 pub fn all(cases: &mut Cases) {
@@ -16,6 +17,7 @@ pub fn all(cases: &mut Cases) {
         let bottles: Vec<Bottle> = course.chars().map(bottle_of).collect();
         add(cases, &bottles);
     }
+    other_numbers(cases);
     odd_slices(cases);
     let mut generator = Generator::new(601);
     for _ in 0..400 {
@@ -94,6 +96,20 @@ fn undecided() -> Bottle {
     undecided_conductivity().unwrap_or_else(Bottle::doubtful)
 }
 
+/// Offers of a bottle, of others by the high word, by the low word and by the
+/// order of the two, and of the same bottle again; and the other order first.
+fn other_numbers(cases: &mut Cases) {
+    let doubtful = Bottle::doubtful();
+    for parts in ORDERED {
+        let bottle = doubtful.parts(parts);
+        let mut offers = vec![bottle.clone()];
+        offers.extend(others(parts).map(|other| doubtful.parts(other)));
+        offers.push(bottle.clone());
+        add(cases, &offers);
+        add(cases, &[doubtful.parts(swapped(parts)), bottle]);
+    }
+}
+
 /// Offers that aren't as long as a record, and a list that ends in the middle
 /// of one.
 fn odd_slices(cases: &mut Cases) {
@@ -128,15 +144,20 @@ pub fn scattered_list(generator: &mut Generator) -> Vec<Vec<u32>> {
         .collect()
 }
 
+/// The words before the readings that can be out of range whatever the others
+/// are: any low part belongs to some number.
+const RANGED: [usize; 5] = [NUMBER_HIGH, KIND, PH, CONDUCTIVITY, ALKALINITY];
+
 fn disturbed(generator: &mut Generator, mut words: Vec<u32>) -> Vec<u32> {
     match generator.below(16) {
-        0 => words[NUMBER] = words[NUMBER] % MOST_NUMBER + 1,
-        1 => words[KIND] = words[KIND] % SOIL_WATER + 1,
-        2 => {
-            // Beyond the range of any word before the readings.
-            let place = generator.below(FIRST_READING as u32) as usize;
-            words[place] = 300_000_000;
+        0 => {
+            // Mostly another number, now and then none.
+            let parts = (words[NUMBER_HIGH], words[NUMBER_LOW]);
+            (words[NUMBER_HIGH], words[NUMBER_LOW]) = generator.pick(&others(parts));
         }
+        1 => words[KIND] = words[KIND] % SOIL_WATER + 1,
+        // Beyond the range of any of these.
+        2 => words[generator.pick(&RANGED)] = 300_000_000,
         3 => words.truncate(generator.below(RECORD_WORDS as u32) as usize),
         4 => words[mark_of(CALCIUM)] = 3,
         _ => {}

@@ -1,10 +1,11 @@
 //! Calls 6, 14 and 15: numbers of refusals, presence, and the same sample.
 
 use super::bottle::Bottle;
+use super::sample_numbers::{others, ORDERED, REFUSED};
 use super::Cases;
 use crate::numbers::{
     bits_of, mark_of, reading_of, AMMONIUM, BULK, CALCIUM, ELEMENTS, KIND, LEAST_LIMIT_BITS,
-    MOST_BITS, READINGS, RECORD_WORDS, THROUGHFALL, WET_ONLY,
+    MOST_BITS, MOST_NUMBER, READINGS, RECORD_WORDS, THROUGHFALL, WET_ONLY,
 };
 use crate::refusals::ALL;
 
@@ -14,6 +15,7 @@ pub fn all(cases: &mut Cases) {
     }
     presence(cases);
     samples(cases);
+    samples_by_number(cases);
 }
 
 /// Marks and bits that are, or aren't, a reading that is present.
@@ -45,6 +47,10 @@ fn presence(cases: &mut Cases) {
     // Another reading, or another word, that is refused changes nothing.
     ask(1, printed.reading(CALCIUM, 3, 0).words());
     ask(1, printed.number(0).kind(9).ph(0).words());
+    for parts in REFUSED {
+        ask(1, printed.parts(parts).words());
+    }
+    ask(1, printed.number(MOST_NUMBER).words());
     // Also without a part of the first reading, and without all after it.
     for length in [0, 1, bits_of(AMMONIUM), mark_of(CALCIUM), RECORD_WORDS - 1] {
         ask(1, &printed.words()[..length]);
@@ -52,12 +58,33 @@ fn presence(cases: &mut Cases) {
     ask(1, &[printed.words(), &[0]].concat());
 }
 
+/// Whether two slices are of one sample.
+fn ask_both(cases: &mut Cases, first: &[u32], second: &[u32]) {
+    cases.add(15, &[&[first.len() as u32], first, second].concat());
+}
+
+/// The same number in another bottle; another one by the high word, by the low
+/// word and by the order of the two. A number that is none is no sample's.
+fn samples_by_number(cases: &mut Cases) {
+    let printed = Bottle::printed();
+    for parts in ORDERED {
+        let bottle = printed.parts(parts);
+        let again = Bottle::doubtful().kind(BULK).parts(parts);
+        ask_both(cases, bottle.words(), again.words());
+        for other in others(parts) {
+            ask_both(cases, bottle.words(), printed.parts(other).words());
+        }
+    }
+    for parts in REFUSED {
+        let bottle = printed.parts(parts);
+        ask_both(cases, bottle.words(), bottle.words());
+    }
+}
+
 fn samples(cases: &mut Cases) {
     let printed = Bottle::printed();
     let words = printed.words();
-    let mut ask = |first: &[u32], second: &[u32]| {
-        cases.add(15, &[&[first.len() as u32], first, second].concat());
-    };
+    let mut ask = |first: &[u32], second: &[u32]| ask_both(cases, first, second);
     ask(words, words);
     ask(words, Bottle::doubtful().number(7).kind(BULK).words());
     ask(words, printed.number(8).words());

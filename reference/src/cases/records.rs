@@ -1,18 +1,23 @@
-//! Call 7: proved cases, refused records, missing and below readings, scatter.
+//! Call 7: proved cases, sample numbers, refused records, missing and below
+//! readings, scatter.
 
 use super::bottle::{plausible, Bottle};
 use super::floats::{float_of, limit_of};
 use super::generator::Generator;
+use super::sample_numbers::{edge_parts, swapped, EDGES, ORDERED, REFUSED, TOO_HIGH};
 use super::Cases;
 use crate::numbers::{
     ALKALINITY, AMMONIUM, CONDUCTIVITY, FIRST_READING, KIND, KINDS, LEAST_LIMIT_BITS, LEAST_PH,
-    MOST_ALKALINITY, MOST_BITS, MOST_CONDUCTIVITY, MOST_NUMBER, MOST_PH, NUMBER, ORGANIC_CARBON,
-    PH, POTASSIUM, READINGS, RECORD_WORDS, SOIL_WATER, WET_ONLY,
+    MOST_ALKALINITY, MOST_BITS, MOST_CONDUCTIVITY, MOST_NUMBER, MOST_PH, NUMBER_HIGH, NUMBER_LOW,
+    ORGANIC_CARBON, PH, POTASSIUM, READINGS, RECORD_WORDS, SOIL_WATER, WET_ONLY,
 };
 
 pub fn all(cases: &mut Cases) {
     proved(cases);
     lengths(cases);
+    numbers(cases);
+    numbers_among_other_faults(cases);
+    without_a_high_word(cases);
     single_faults(cases);
     pairs_of_faults(cases);
     ends_of_ranges(cases);
@@ -53,11 +58,59 @@ fn lengths(cases: &mut Cases) {
     cases.add(7, &[faulty.words(), &[0]].concat());
 }
 
+/// Numbers at the ends of their range and words at the ends of theirs; words in
+/// both orders.
+fn numbers(cases: &mut Cases) {
+    let printed = Bottle::printed();
+    for number in EDGES {
+        cases.judge(&printed.number(number));
+    }
+    for parts in edge_parts() {
+        cases.judge(&printed.parts(parts));
+    }
+    for parts in ORDERED {
+        cases.judge(&printed.parts(parts));
+        cases.judge(&printed.parts(swapped(parts)));
+    }
+}
+
+/// The number is tested after the length and before the kind, whichever of its
+/// words is at fault.
+fn numbers_among_other_faults(cases: &mut Cases) {
+    let printed = Bottle::printed();
+    let bad_kinds = [0, SOIL_WATER + 1, u32::MAX];
+    for parts in REFUSED {
+        let bottle = printed.parts(parts);
+        for kind in bad_kinds {
+            cases.judge(&bottle.kind(kind));
+        }
+        cases.add(7, &bottle.words()[..RECORD_WORDS - 1]);
+        cases.add(7, &[bottle.words(), &[0]].concat());
+    }
+    for number in [1, MOST_NUMBER] {
+        for kind in bad_kinds {
+            cases.judge(&printed.number(number).kind(kind));
+        }
+    }
+}
+
+/// The printed sample as document 01 has it, a word too short; and with a word
+/// behind, so that its number and kind become the parts of a number and its pH
+/// the kind.
+fn without_a_high_word(cases: &mut Cases) {
+    let printed = Bottle::printed();
+    let short = &printed.words()[NUMBER_LOW..];
+    cases.add(7, short);
+    cases.add(7, &[short, &[0]].concat());
+}
+
 /// Words before the readings out of their range: the word, and what it becomes.
+/// The high word of the printed sample is 0: with a low word of 0 its number
+/// becomes 0.
 const WORD_FAULTS: [(usize, u32); 14] = [
-    (NUMBER, 0),
-    (NUMBER, MOST_NUMBER + 1),
-    (NUMBER, u32::MAX),
+    (NUMBER_LOW, 0),
+    (NUMBER_HIGH, TOO_HIGH),
+    (NUMBER_HIGH, u32::MAX),
     (KIND, 0),
     (KIND, SOIL_WATER + 1),
     (KIND, u32::MAX),
@@ -121,10 +174,10 @@ fn pairs_of_faults(cases: &mut Cases) {
     }
 }
 
+/// The ends of all ranges but the number's.
 fn ends_of_ranges(cases: &mut Cases) {
     let printed = Bottle::printed();
     let ends = [
-        (NUMBER, [1, MOST_NUMBER]),
         (KIND, [WET_ONLY, SOIL_WATER]),
         (PH, [LEAST_PH, MOST_PH]),
         (CONDUCTIVITY, [1, MOST_CONDUCTIVITY]),

@@ -3,6 +3,7 @@ use crate::cases::agreement::TRACES;
 use crate::cases::bottle::Bottle;
 use crate::cases::generator::Generator;
 use crate::cases::offers::scattered_list;
+use crate::cases::sample_numbers::{others, ORDERED};
 use crate::numbers::{BULK, CHLORIDE, LEAST_PH, ORGANIC_CARBON, POTASSIUM, TOTAL_NITROGEN};
 
 /// A bottle with too little total nitrogen, so that it is never consistent.
@@ -95,6 +96,34 @@ fn a_refused_offer_changes_nothing() {
     let expected = [Ok(()), Err(12), Err(12), Err(4), Ok(()), Err(11), Err(4)];
     assert_eq!(answers, expected);
     assert_eq!((state, count), (State::Confirmed, 2));
+}
+
+#[test]
+fn a_sample_is_known_by_its_whole_number() {
+    let bottle = doubtful().parts((5, 9));
+    let offers = [(5, 9), (6, 9), (5, 10), (9, 5), (0, 9), (5, 9)];
+    let (answers, state, count) = follow(&offers.map(|parts| bottle.parts(parts)));
+    let expected = [Ok(()), Err(12), Err(12), Err(12), Err(12), Ok(())];
+    assert_eq!(answers, expected);
+    assert_eq!((state, count), (State::Confirmed, 2));
+}
+
+#[test]
+fn another_number_is_refused_by_any_open_docket() {
+    for parts in ORDERED {
+        let bottle = doubtful().parts(parts);
+        let mut held = [0; RECORD_WORDS];
+        held.copy_from_slice(bottle.words());
+        for other in others(parts).map(|other| bottle.parts(other)) {
+            // Words that make no number are refused before they are compared.
+            let expected = Record::read(other.words()).err().unwrap_or(12);
+            for count in [1, 2] {
+                let answer = offer(State::Open, count, &held, other.words());
+                assert_eq!(answer, Err(expected));
+                assert!(offer(State::Open, count, &held, bottle.words()).is_ok());
+            }
+        }
+    }
 }
 
 #[test]

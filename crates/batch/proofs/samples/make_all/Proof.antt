@@ -4,7 +4,7 @@ use mathlib.Core.Path.{sym, ap, _∙_}
 use Prim.Native.Nat.{_-_}
 use borrow.Author.Needs.{needs}
 use Rattle.judge.specs.Judgements.{judgementOutcome}
-use Rattle.batch.proofs.SampleLaws.{number-most, Making, making-begins, making-next, making-short, making-refused, making-left, making-done}
+use Rattle.batch.proofs.SampleLaws.{Making, making-begins, making-next, making-short, making-refused, making-left, making-done}
 use Rattle.batch.proofs.samples.make_all.Statement.{statement}
 use Rattle.batch.proofs.samples.make_all.Tie as tie
 
@@ -24,7 +24,7 @@ row-requires : tie.Need-row-requires Inv-loop μ-loop
 row-requires c κs =
     let judging = c .before .before .before in
     let turn = judging .before .before .before .before .before in
-    (number-most (judging .before .test .result) (record { answered = judging .before .test .ensures }) (sym (judging .judge-tested .ensures) ∙ ap judgementOutcome (c .before .verdicts .given .1)), turn .loop .inv .paired)
+    turn .loop .inv .paired
 
 loop-again : tie.Need-loop-again Inv-loop μ-loop
 loop-again c =

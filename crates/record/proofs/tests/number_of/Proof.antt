@@ -1,4 +1,4 @@
--- The definition reads the same word.
+-- The definition reads the same two words.
 use Rattle.record.specs.Record.{sampleNumber}
 use borrow.Author.Needs.{needs}
 use Rattle.record.proofs.tests.number_of.Statement.{statement}
@@ -6,7 +6,7 @@ use Rattle.record.proofs.tests.number_of.Tie as tie
 
 returns : tie.Need-returns
 unfolding sampleNumber
-returns c = c .wide .ensures
+returns c = c .whole .ensures .0
 
 pub number-of-spec : {M : Type 1} → statement M
-number-of-spec = tie.close (tie.spec (λ c. search needs) (λ c κs. search needs) returns)
+number-of-spec = tie.close (tie.spec (λ c. search needs) (λ c. search needs) (λ c κs. search needs) returns)
