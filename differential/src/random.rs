@@ -1,6 +1,8 @@
 //! Draws that the other implementation's generator doesn't have itself.
 
 use reference::cases::generator::Generator;
+#[cfg(test)]
+use std::ops::RangeInclusive;
 
 pub trait Draw {
     /// Any word.
@@ -53,4 +55,14 @@ impl Draw for Generator {
             words[place] ^= 1 << self.below(32);
         }
     }
+}
+
+/// How often each length of a range comes among these.
+#[cfg(test)]
+pub fn times_of(about: RangeInclusive<usize>, lengths: impl Iterator<Item = usize>) -> Vec<u32> {
+    let mut times = vec![0; about.clone().count()];
+    for length in lengths.filter(|length| about.contains(length)) {
+        times[length - about.start()] += 1;
+    }
+    times
 }

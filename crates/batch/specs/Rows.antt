@@ -57,7 +57,8 @@ unfoldable pub flagged : List Chart → List ℕ → Bool
 flagged [] w = false
 flagged (c ∷ cs) w = (not (eqb (signalOf c) 0) && hasReading w (c .element)) || flagged cs w
 
--- of a sample's number, verdicts and flag. The two parts of the number are the first two words of the record, by `NumberLaws.apart`
+-- of a sample's number, verdicts and flag. The parts of the number are the record's own first two words, which have 32 bits each, by
+-- `NumberLaws.apart`
 abbrev pub rowWith : ℕ → Four → Bool → List ℕ
 rowWith number v flag = highPart number ∷ lowPart number ∷ v .balance ∷ v .conductivity ∷ v .ratio ∷ v .nitrogen ∷ cond flag 1 0 ∷ []
 

@@ -1,4 +1,5 @@
--- Document 01, 'Charts', and document 02 (i): how many values a chart may have and how great they may be, and the refusals of those that it may not.
+-- Document 01, 'Charts', and document 02 (i): how many values a chart may have and how great they may be, and the refusals of those
+-- that it may not.
 use mathlib.Core.Bool.{Bool, true, _&&_}
 use mathlib.Core.List.{List, [], _∷_}
 use Prim.Native.Nat.{ℕ}

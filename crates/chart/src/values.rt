@@ -1,4 +1,5 @@
-// The values of a control chart (document 01, 'Charts', and document 02 (i)): how many it may have and how great they may be, refusals 9 and 10.
+// The values of a control chart (document 01, 'Charts', and 02 (i)): how many it may have and how great they may be, refusals
+// 9 and 10.
 use refusal::Refusal;
 ghost use mathlib.Core.Path.{_≡_};
 ghost use Rattle.chart.specs.Values.{allValues, countsFit, testOf, testedOutcome};

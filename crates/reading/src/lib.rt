@@ -1,4 +1,4 @@
-// Readings of the analyser (document 01, 'A reading', and document 02 (i)): made from a value and its quantification limit, or from the
+// Readings of the analyser (document 01, 'A reading', and 02 (i)): made from a value and its quantification limit, or from the
 // two words of a record; written back as words; and converted to an amount in tenths of a µg/L.
 mod amounts;
 mod marks;

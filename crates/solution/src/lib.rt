@@ -1,5 +1,5 @@
-// What a water holds in solution by its analysis (document 01, 'Charge and conductance', and document 02 (i)): the charges and the conductivities of
-// the table's ten rows, added up to the sums that the checks compare.
+// What a water holds in solution by its analysis (document 01, 'Charge and conductance', and 02 (i)): the charges and the
+// conductivities of the table's ten rows, added up to the sums that the checks compare.
 mod ions;
 mod ranges;
 mod sums;

@@ -167,6 +167,7 @@ impl HandedIn {
 mod tests {
     use super::*;
     use crate::numbers::{MOST_NUMBER, NUMBER_HIGH, NUMBER_LOW};
+    use crate::random::times_of;
     use crate::sample_numbers::number_of;
     use reference::record::Record;
     use reference::refusals::{DOCKET, OTHER_SAMPLE, SAMPLE_NUMBER};
@@ -201,14 +202,8 @@ mod tests {
     #[test]
     fn lengths_beside_a_docket_s_are_common() {
         let mut generator = Generator::new(18);
-        let about = DOCKET_WORDS - 1..=DOCKET_WORDS + 2;
-        let mut times = [0; 4];
-        for _ in 0..20_000 {
-            let length = HandedIn::drawn(&mut generator).docket.len();
-            if about.contains(&length) {
-                times[length - about.start()] += 1;
-            }
-        }
+        let lengths = (0..20_000).map(|_| HandedIn::drawn(&mut generator).docket.len());
+        let times = times_of(DOCKET_WORDS - 1..=DOCKET_WORDS + 2, lengths);
         assert!(times.iter().all(|&times| times > 30), "{times:?}");
     }
 }

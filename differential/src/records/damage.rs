@@ -61,6 +61,7 @@ fn edge_of_a_reading(generator: &mut Generator, words: &mut [u32]) {
 mod tests {
     use super::*;
     use crate::answers::judge;
+    use crate::random::times_of;
 
     #[test]
     fn every_refusal_of_a_record_is_common() {
@@ -77,14 +78,8 @@ mod tests {
     #[test]
     fn lengths_beside_a_record_s_are_common() {
         let mut generator = Generator::new(15);
-        let about = RECORD_WORDS - 1..=RECORD_WORDS + 1;
-        let mut times = [0; 3];
-        for _ in 0..20_000 {
-            let length = damaged(&mut generator).len();
-            if about.contains(&length) {
-                times[length - about.start()] += 1;
-            }
-        }
+        let lengths = (0..20_000).map(|_| damaged(&mut generator).len());
+        let times = times_of(RECORD_WORDS - 1..=RECORD_WORDS + 1, lengths);
         assert!(times.iter().all(|&times| times > 500), "{times:?}");
     }
 }
