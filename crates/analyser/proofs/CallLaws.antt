@@ -9,9 +9,8 @@ use Rattle.refusal.specs.Numbers.{numberOf}
 use Rattle.refusal.specs.Outcome.{Outcome}
 use Rattle.refusal.specs.Outcome.Outcome.{given, refused}
 use Rattle.refusal.specs.Lent.{fitting, lentAfter, lengthOf}
-use Rattle.refusal.proofs.Outcomes.{never}
 use Rattle.refusal.proofs.LentLaws.{too-short, written}
-use Rattle.analyser.specs.Codes.{codeOf, sizeAfter}
+use Rattle.analyser.specs.Codes.{codeOf, sizeAfter, toldSize}
 
 -- the returned code, and the slice after the call, which held old before
 abbrev pub Called : Outcome (List ℕ) → List ℕ → ℕ → List ℕ → Type 0
@@ -35,13 +34,9 @@ written-code (given answer) e f = e ∙ ap codeOf f
 written-code (refused n) e f = e ∙ ap codeOf f
 
 -- and a length told beside it
-pub written-size : (o : Outcome (List ℕ)) {n : ℕ} (old : ℕ) → given n ≡ lengthOf o → n ≡ sizeAfter o old
-written-size (given answer) old e = cc
-written-size (refused n) old e = never (sym e)
-
-pub refused-size : (o : Outcome (List ℕ)) {n : ℕ} (old : ℕ) → refused n ≡ lengthOf o → old ≡ sizeAfter o old
-refused-size (given answer) old e = never e
-refused-size (refused n) old e = refl
+pub written-size : (o : Outcome (List ℕ)) {w : Outcome ℕ} {size : ℕ} (old : ℕ) → size ≡ toldSize w old → w ≡ lengthOf o → size ≡ sizeAfter o old
+written-size (given answer) old e f = e ∙ ap (λ (x : Outcome ℕ). toldSize x old) f
+written-size (refused n) old e f = e ∙ ap (λ (x : Outcome ℕ). toldSize x old) f
 
 -- an answer is lent where it fits
 module _ (answer old : List ℕ) where

@@ -19,3 +19,8 @@ andThen (refused n) next = refused n
 abbrev pub sizeAfter : Outcome (List ℕ) → ℕ → ℕ
 sizeAfter (given answer) old = length answer
 sizeAfter (refused n) old = old
+
+-- the same, by how long an answer is
+abbrev pub toldSize : Outcome ℕ → ℕ → ℕ
+toldSize (given n) old = n
+toldSize (refused n) old = old

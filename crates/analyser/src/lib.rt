@@ -12,7 +12,6 @@ use docket::Answer;
 use judge::Judgement;
 use reading::Analysed;
 use reading::ReadingResult;
-use refusal::Written;
 ghost use mathlib.Core.Path.{_≡_};
 ghost use lib.ListN.{length};
 ghost use Rattle.refusal.specs.Lent.{fitting, lentAfter};
@@ -108,11 +107,5 @@ pub extern "C" fn peltquarry_list(bytes: &[u8], text: &mut [u8], size: &mut usiz
     ensures lent { λ _. ⌜ now (text .exit) ≡ lentAfter (fitting (length (now (text .entry))) (given (listText (now (bytes .entry))))) (now (text .entry)) ⌝ }
     ensures size { λ _. ⌜ now (size .exit) ≡ sizeAfter (fitting (length (now (text .entry))) (given (listText (now (bytes .entry))))) (now (size .entry)) ⌝ }
 {
-    match listing::list(bytes, text) {
-        Written::Length(n) => {
-            *size = n;
-            0
-        }
-        Written::Refused(why) => why.number(),
-    }
+    codes::with_size(listing::list(bytes, text), size)
 }

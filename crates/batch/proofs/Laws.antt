@@ -1,7 +1,7 @@
 -- For the crates above: what was read of a batch, and what every answer keeps to.
 use mathlib.Core.Path.{_≡_, refl, sym}
 use mathlib.Core.Bool.{Bool, true, false, cond}
-use mathlib.Core.List.{List, [], _∷_, _++_}
+use mathlib.Core.List.{List, [], _∷_}
 use Prim.Native.Nat.{ℕ, zero, suc, _+_, _*_, _^_, _<_}
 use native.Mathlib.Omega.{arith}
 use lib.Dec.{lit≤}
@@ -11,12 +11,13 @@ use Rattle.refusal.specs.Outcome.{Outcome}
 use Rattle.refusal.specs.Outcome.Outcome.{given, refused}
 use Rattle.refusal.proofs.Outcomes.{never}
 use Rattle.judge.proofs.Laws.{judged-valid, judged-most}
-use Rattle.words.proofs.TakenLaws.{Every}
+use Rattle.words.specs.Each.{Every}
 use Rattle.chart_section.specs.ChartSection.{Chart}
 use Rattle.batch.specs.Batches.{Sample, Batch, batchOf}
 use Rattle.batch.specs.Rows.{numberWidth, flagWidth, rowWidths, rowWords, flagged, rowOf, rowsOf, answerOf, answeredBy, batchAnswer, rowAt, rowFields, SmallRow, Listed}
-use Rattle.batch.specs.Layout.{ReadsItsLayout}
-use Rattle.batch.proofs.TakenLaws.{Judged, batch-read}
+use Rattle.batch.specs.Layout.{Judged, LayoutLaws}
+use Rattle.batch.proofs.TakenLaws.{batch-read}
+use Rattle.batch.proofs.BackLaws.{layout-is-read, layout-fits}
 
 -- ---- a row has the words of its fields, and each field is within its width
 
@@ -64,7 +65,7 @@ unfolding batchAnswer
 answer-listed s w e =
     let t = answered (batchOf s) w e in
     let b = t .0 in
-    let r = batch-read s b (t .1) in
+    let r = batch-read s b (t .1) .valid in
     rw (sym (t .2))
     (record {
       count = r .few;
@@ -73,5 +74,6 @@ answer-listed s w e =
           (rows-small (b .charts) (b .samples) (r .judged) i l);
     })
 
-pub reads-its-layout : ReadsItsLayout
-reads-its-layout s b e = batch-read s b e .words
+-- reading and writing undo each other
+pub layout-laws : LayoutLaws
+layout-laws = record { reads = λ s b e. batch-read s b e .words; valid = λ s b e. batch-read s b e .valid; back = layout-is-read; fits = layout-fits }

@@ -1,13 +1,11 @@
--- A sample at the front of the words: too short, refused or taken. And the rows made of those before it, from the start of
--- the loop over the samples to each of its ends.
+-- The rows made of the samples, from the start of the loop over them to each of its ends.
 use mathlib.Core.Path.{_≡_, refl, sym, ap, ap₂, _∙_}
 use mathlib.Core.Bool.{Bool}
 use mathlib.Core.List.{List, [], _∷_, _++_, append-assoc, append-nil}
-use Prim.Native.Nat.{ℕ, _+_, _-_, _*_, _≤_, _<_}
+use Prim.Native.Nat.{ℕ, _+_, _*_, _≤_, _<_}
 use native.Mathlib.Omega.{arith}
-use lib.ListN.{length, getD, take, drop, length-append, length-drop}
-use lib.Seq.{take-suc, drop-drop}
-use borrow.Author.Tests.{le-leb, lt-leb, eq-eqb, ne-eqb}
+use lib.ListN.{length, getD, take, drop, length-append}
+use lib.Seq.{take-suc}
 use Rattle.refusal.specs.Outcome.Outcome.{given, refused}
 use Rattle.refusal.specs.Numbers.{numberOf}
 use Rattle.refusal.specs.declared.Refusal.the-variants as refusal
@@ -16,36 +14,19 @@ use Rattle.record.specs.Record.{recordWords, hasReading}
 use Rattle.record.specs.Tested.{Fields, fieldsIn, termsOf, OwnTests, hasReadingIn}
 use Rattle.record.proofs.AcceptedLaws.{Valid}
 use Rattle.record.proofs.TestedLaws.{tested-fields, tested-reading}
-use Rattle.judge.specs.Judgements.{Four, judgementOf}
+use Rattle.judge.specs.Judgements.{Four}
 use Rattle.judge.specs.ByValue.{judgedOf}
 use Rattle.judge.proofs.Laws.{judged-valid, judged-by-value}
-use Rattle.batch.specs.Batches.{Sample, mostSamples, sampleOf, samplesOf}
+use Rattle.batch.specs.Batches.{Sample, mostSamples}
 use Rattle.batch.specs.Rows.{rowWords, mostAnswer, rowWith}
 use Rattle.refusal.specs.Lent.{placed}
 use Rattle.batch.specs.Steps.{rowIn, rowBy, rowsBy, samplesAnswer}
 use Rattle.batch.proofs.FlagLaws.{flag-alike}
+use Rattle.batch.proofs.ReadingLaws.{sampleAfter, Left, lentRecord, record-there, next-left, record-short, record-refused, words-left, nothing-left}
 use Rattle.refusal.proofs.PlaceLaws.{placed-take, length-placed}
-use Rattle.words.specs.FromFront.{Read, taken, many}
 use Rattle.words.specs.Placing.{placedWithin}
-use Rattle.words.proofs.SliceLaws.{part-of}
-use Rattle.words.proofs.ManyLaws.{then-taken, then-refused, many-none, many-refused, many-next, section-short, section-over, section-begins}
+use Rattle.words.proofs.ManyLaws.{section-begins}
 use Rattle.words.proofs.Laws.{placed-all}
-
--- ---- one sample
-
-sample-short : (s : List ℕ) → length s < recordWords → sampleOf s ≡ refused (numberOf refusal.BatchLength)
-unfolding sampleOf
-sample-short s h = rw (lt-leb recordWords (length s) h)
-
-module _ (s : List ℕ) (h : recordWords ≤ length s) where
-  sample-refused : (n : ℕ) → judgementOf (take recordWords s) ≡ refused n → sampleOf s ≡ refused n
-  unfolding sampleOf
-  sample-refused n e = rw (le-leb recordWords (length s) h, e)
-
-  sample-taken : (v : Four) → judgementOf (take recordWords s) ≡ given v
-      → sampleOf s ≡ taken (record { words = take recordWords s; verdicts = v }) (drop recordWords s)
-  unfolding sampleOf
-  sample-taken v e = rw (le-leb recordWords (length s) h, e)
 
 -- ---- rows
 
@@ -64,20 +45,6 @@ unfolding rowsBy
 rows-more es gs [] a = append-nil (rowBy es gs a)
 rows-more es gs (b ∷ before) a = rw (rows-more es gs before a) (sym (append-assoc (rowBy es gs b) (rowsBy es gs before) (rowBy es gs a)))
 
--- ---- the section
-
-abbrev sampleAfter : List Sample → List ℕ → Read Sample
-sampleAfter before = sampleOf
-
-module _ (es gs words : List ℕ) where
-  pub samples-short : length words < 1 → samplesAnswer es gs words ≡ refused (numberOf refusal.BatchLength)
-  unfolding samplesAnswer
-  samples-short h = then-refused _ (section-short sampleAfter mostSamples words h)
-
-  pub samples-over : 1 ≤ length words → mostSamples < getD words 0 0 → samplesAnswer es gs words ≡ refused (numberOf refusal.Count)
-  unfolding samplesAnswer
-  samples-over h l = then-refused _ (section-over sampleAfter mostSamples words h l)
-
 -- ---- the loop
 
 -- i of count samples have been read, up to the index at, and their rows are the first words of the buffer. The charts' columns are of
@@ -91,7 +58,7 @@ pub record Making (words : List ℕ) (count : ℕ) (es gs buffer : List ℕ) (at
   pub room : length buffer ≡ mostAnswer
   pub before : List Sample
   pub counted : length before ≡ i
-  pub rest : samplesOf words ≡ many sampleAfter (count - i) before (drop at words)
+  pub left : Left words count at i before
   pub rows : take size buffer ≡ count ∷ rowsBy es gs before
 
 pub making-begins : (words : List ℕ) (count : ℕ) (es gs buffer : List ℕ)
@@ -108,17 +75,16 @@ making-begins words count es gs buffer p h e l b f =
       room = b;
       before = [];
       counted = refl;
-      rest = section-begins sampleAfter mostSamples words count h e l;
+      left = section-begins sampleAfter mostSamples words count h e l;
       rows = take-suc buffer 0 0 (omega arith) ∙ ap (λ (n : ℕ). n ∷ []) f;
     }
 
 module _ (words : List ℕ) (count : ℕ) (es gs buffer : List ℕ) (at size i : ℕ) (m : Making words count es gs buffer at size i) where
-  -- the record as the code lends it
   abbrev lent : List ℕ
-  lent = take (at + recordWords - at) (drop at words)
+  lent = lentRecord words count at i (m .before) (m .inside) (m .left)
 
   same : lent ≡ take recordWords (drop at words)
-  same = part-of words at recordWords
+  same = record-there words count at i (m .before) (m .inside) (m .left)
 
   -- a turn: the sample is taken, and its row placed
   pub making-next : (own : TestedRecord) (v : Four) (row after : List ℕ) → i < count → at + recordWords ≤ length words
@@ -131,7 +97,6 @@ module _ (words : List ℕ) (count : ℕ) (es gs buffer : List ℕ) (at size i :
       let whole : length row ≡ rowWords = ap length is in
       let fits : size + length row ≤ length buffer = omega (arith, m .few, m .made, m .room, whole) in
       let p = put ∙ placed-all buffer size row fits in
-      let long : recordWords ≤ length (drop at words) = omega (arith, length-drop at words) in
       record {
         paired = m .paired;
         turns = omega arith;
@@ -141,9 +106,7 @@ module _ (words : List ℕ) (count : ℕ) (es gs buffer : List ℕ) (at size i :
         room = ap length p ∙ length-placed buffer size row fits ∙ m .room;
         before = m .before ++ a ∷ [];
         counted = length-append (m .before) (a ∷ []) ∙ ap (λ (n : ℕ). n + 1) (m .counted);
-        rest = m .rest
-            ∙ many-next sampleAfter count i (m .before) (drop at words) l (sample-taken (drop at words) long v (sym (judged-by-value (a .words) here) ∙ e))
-            ∙ ap (many sampleAfter (count - (i + 1)) (m .before ++ a ∷ [])) (drop-drop recordWords at words);
+        left = next-left words count at i (m .before) (m .inside) (m .left) v l h (sym (judged-by-value (a .words) here) ∙ e);
         rows = ap (take (size + rowWords)) p
             ∙ ap (λ (n : ℕ). take (size + n) (placed buffer size row)) (sym whole)
             ∙ placed-take buffer row size fits
@@ -152,35 +115,24 @@ module _ (words : List ℕ) (count : ℕ) (es gs buffer : List ℕ) (at size i :
             ∙ ap (λ (t : List ℕ). count ∷ t) (sym (rows-more es gs (m .before) a));
       }
 
-  refused-there : (n : ℕ) → i < count → sampleOf (drop at words) ≡ refused n → samplesAnswer es gs words ≡ refused n
-  unfolding samplesAnswer
-  refused-there n l e = then-refused _ (m .rest ∙ many-refused sampleAfter count i (m .before) (drop at words) l e)
-
   -- the ways out
+  abbrev told : List Sample → List ℕ
+  told ss = length ss ∷ rowsBy es gs ss
+
   pub making-short : i < count → length words < at + recordWords → samplesAnswer es gs words ≡ refused (numberOf refusal.BatchLength)
-  making-short l h =
-      let short : length (drop at words) < recordWords = omega (arith, length-drop at words, m .inside) in
-      refused-there _ l (sample-short (drop at words) short)
+  making-short l h = record-short words count at i (m .before) (m .inside) (m .left) told l h
 
   pub making-refused : (own : TestedRecord) (n : ℕ) → i < count → at + recordWords ≤ length words → OwnTests lent own → judgedOf (termsOf own) ≡ refused n
       → samplesAnswer es gs words ≡ refused n
   making-refused own n l h t e =
       let here : OwnTests (take recordWords (drop at words)) own = rw same at t in
-      let long : recordWords ≤ length (drop at words) = omega (arith, length-drop at words) in
-      refused-there n l (sample-refused (drop at words) long n (sym (judged-by-value _ here) ∙ e))
-
-  all-read : count ≤ i → samplesOf words ≡ taken (m .before) (drop at words)
-  all-read l = m .rest ∙ many-none sampleAfter count i (m .before) (drop at words) l
+      record-refused words count at i (m .before) (m .inside) (m .left) told n l h (sym (judged-by-value _ here) ∙ e)
 
   pub making-left : count ≤ i → at < length words → samplesAnswer es gs words ≡ refused (numberOf refusal.BatchLength)
-  unfolding samplesAnswer
-  making-left l h =
-      let some : length (drop at words) ≡ 0 → ⊥ = λ z. omega (arith, length-drop at words) in
-      then-taken _ (all-read l) ∙ rw (ne-eqb (length (drop at words)) 0 some)
+  making-left l h = words-left words count at i (m .before) (m .inside) (m .left) told l h
 
   pub making-done : count ≤ i → length words ≤ at → samplesAnswer es gs words ≡ given (take size buffer)
-  unfolding samplesAnswer
   making-done l h =
-      let none : length (drop at words) ≡ 0 = omega (arith, length-drop at words) in
       let all : length (m .before) ≡ count = omega (arith, m .counted, m .turns) in
-      then-taken _ (all-read l) ∙ rw (eq-eqb (length (drop at words)) 0 none) (ap given (ap (λ (n : ℕ). n ∷ rowsBy es gs (m .before)) all ∙ sym (m .rows)))
+      nothing-left words count at i (m .before) (m .inside) (m .left) told l h
+      ∙ ap given (ap (λ (n : ℕ). n ∷ rowsBy es gs (m .before)) all ∙ sym (m .rows))

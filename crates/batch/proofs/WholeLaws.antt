@@ -1,13 +1,11 @@
 -- From an answer to the returned value and the lent slice, one law for each way out; and from the answer to the samples to
 -- the answer to the batch.
 use mathlib.Core.Path.{_≡_, refl, sym, ap, _∙_}
-use mathlib.Core.Bool.{Bool, true, false}
 use mathlib.Core.List.{List, [], _∷_}
 use Prim.Native.Nat.{ℕ, _-_, _≤_, _<_}
-use lib.Dec.{eqb}
 use lib.ListN.{length, take, drop}
 use lib.Seq.{length-take-le}
-use Rattle.refusal.specs.Outcome.{Outcome, demand}
+use Rattle.refusal.specs.Outcome.{Outcome}
 use Rattle.refusal.specs.Outcome.Outcome.{given, refused}
 use Rattle.refusal.specs.Numbers.{numberOf}
 use native.Mathlib.Omega.{arith}
@@ -18,20 +16,21 @@ use Rattle.refusal.specs.declared.Written.{Written}
 use Rattle.refusal.specs.declared.Written.the-variants as written
 use Rattle.refusal.proofs.LentLaws.{Answers, refused-before, too-short, written as written-whole}
 use Rattle.refusal.proofs.PlaceLaws.{placed-front}
-use Rattle.words.specs.FromFront.{Read, taken, then}
+use Rattle.words.specs.FromFront.{taken}
 use Rattle.words.specs.Placing.{placedWithin}
 use Rattle.words.proofs.Laws.{placed-all}
 use Rattle.words.proofs.SliceLaws.{rest-of, front-of}
-use Rattle.words.proofs.ManyLaws.{then-taken, then-refused}
+use Rattle.words.proofs.ManyLaws.{then-refused}
 use Rattle.chart_section.specs.declared.Ended.the-variants as ended
 use Rattle.chart_section.specs.declared.ChartColumns.{ChartColumns}
 use Rattle.chart_section.specs.ChartSection.{Chart, elementsOf, signalsIn, chartsOf}
 use Rattle.chart_section.specs.Columns.{columnsOf, termsOf}
 use Rattle.chart_section.proofs.Laws.{Held, columns-held, columns-refused}
-use Rattle.batch.specs.Batches.{Sample, samplesOf, nothingLeft, batchOf}
+use Rattle.batch.specs.Batches.{Sample, batchOf}
 use Rattle.batch.specs.Rows.{answeredBy, rowsOf, batchAnswer}
 use Rattle.batch.specs.Steps.{rowsBy, samplesAnswer, MadeSaid}
 use Rattle.batch.proofs.FlagLaws.{flag-same}
+use Rattle.batch.proofs.ReadingLaws.{batch-told}
 
 -- what is returned and what the lent slice then holds, where x was to be answered and the slice was old
 abbrev Done : Outcome (List ℕ) → List ℕ → Written → List ℕ → Type 0
@@ -73,19 +72,10 @@ unfolding batchAnswer batchOf
 charts-refused s n e = ap answeredBy (then-refused _ e)
 
 charts-taken : (s rest : List ℕ) (cs : List Chart) → chartsOf s ≡ taken cs rest → samplesAnswer (elementsOf cs) (signalsIn cs) rest ≡ batchAnswer s
-unfolding batchAnswer batchOf samplesAnswer
-charts-taken s rest cs e = by-samples (samplesOf rest) ∙ sym (ap answeredBy (then-taken _ e))
-  where
-    left : (ss : List Sample) (none : Bool)
-        → demand none (numberOf refusal.BatchLength) (given (length ss ∷ rowsBy (elementsOf cs) (signalsIn cs) ss))
-        ≡ answeredBy (demand none (numberOf refusal.BatchLength) (given (record { charts = cs; samples = ss })))
-    left ss true = ap (λ (t : List ℕ). given (length ss ∷ t)) (rows-same cs ss)
-    left ss false = refl
-
-    by-samples : (x : Read (List Sample)) → then x (λ ss t. nothingLeft t (given (length ss ∷ rowsBy (elementsOf cs) (signalsIn cs) ss)))
-        ≡ answeredBy (then x (λ ss t. nothingLeft t (given (record { charts = cs; samples = ss }))))
-    by-samples (given p) = left (p .0) (eqb (length (p .1)) 0)
-    by-samples (refused n) = refl
+unfolding batchAnswer
+charts-taken s rest cs e =
+    batch-told answeredBy (λ ss. length ss ∷ rowsBy (elementsOf cs) (signalsIn cs) ss) cs (λ n. refl)
+    (λ ss. ap (λ (t : List ℕ). given (length ss ∷ t)) (sym (rows-same cs ss))) s rest e
 
 -- how reading the charts ended: the batch is refused, or its samples are judged. The columns and the words are those that the
 -- code lends

@@ -1,6 +1,6 @@
 -- Document 01, 'A batch': what its words say, a batch as a value; or the first refusal, in the order that document 01 gives:
 -- 'A batch is read from the front, each part whole (else 8) before its tests: a section's count 9; .. a record 2 to 7; leftovers
--- 8'. What stands between is of the charts (`controls`).
+-- 8'. What stands between is of the charts (`chart_section`).
 use mathlib.Core.List.{List}
 use Prim.Native.Nat.{ℕ}
 use lib.Dec.{eqb}
@@ -50,3 +50,11 @@ batchOf s =
     then (chartsOf s)
     (λ cs s₁. then (samplesOf s₁)
     (λ ss s₂. nothingLeft s₂ (given (record { charts = cs; samples = ss }))))
+
+-- a batch's own tests alone: nothing is told but that they accept it, or the number of the first that refuses it
+abbrev pub testedBy : Outcome Batch → Outcome (Unit {0})
+testedBy (given b) = given tt
+testedBy (refused n) = refused n
+
+unfoldable pub testOf : List ℕ → Outcome (Unit {0})
+testOf s = testedBy (batchOf s)

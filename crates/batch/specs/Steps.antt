@@ -36,9 +36,16 @@ unfoldable pub rowsBy : List ℕ → List ℕ → List Sample → List ℕ
 rowsBy es gs [] = []
 rowsBy es gs (a ∷ l) = rowBy es gs a ++ rowsBy es gs l
 
--- what is answered to the samples' section and what is left after it
-unfoldable pub samplesAnswer : List ℕ → List ℕ → List ℕ → Outcome (List ℕ)
-samplesAnswer es gs s = then (samplesOf s) (λ ss rest. nothingLeft rest (given (length ss ∷ rowsBy es gs ss)))
+-- what is told of the samples' section and what is left after it, where f is told of the samples
+unfoldable pub samplesThen : {A : Type 0} → (List Sample → A) → List ℕ → Outcome A
+samplesThen f s = then (samplesOf s) (λ ss rest. nothingLeft rest (given (f ss)))
+
+-- the answer; and nothing but that they are samples
+abbrev pub samplesAnswer : List ℕ → List ℕ → List ℕ → Outcome (List ℕ)
+samplesAnswer es gs s = samplesThen (λ ss. length ss ∷ rowsBy es gs ss) s
+
+abbrev pub samplesTest : List ℕ → Outcome (Unit {0})
+samplesTest s = samplesThen (λ ss. tt) s
 
 -- how making an answer x in a buffer ended: its first words are the answer
 abbrev pub MadeSaid : Written → Outcome (List ℕ) → List ℕ → Type 0

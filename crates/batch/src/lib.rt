@@ -1,16 +1,21 @@
 // Judges a batch (document 01, 'A batch'): control charts, then samples. The answer is the sample count, then a row a sample.
+pub mod input;
 mod rows;
 mod samples;
+mod testing;
 pub mod widths;
 
 use chart_section::Ended;
+use judge::Acceptance;
 use refusal::Refusal;
 use refusal::Written;
 ghost use mathlib.Core.Path.{_≡_};
 ghost use lib.ListN.{length};
 ghost use Rattle.refusal.specs.Lent.{fitting, lengthOf, lentAfter, writtenOutcome};
+ghost use Rattle.judge.specs.Repeats.{acceptanceOutcome};
+ghost use Rattle.batch.specs.Batches.{testOf};
 ghost use Rattle.batch.specs.Rows.{batchAnswer};
-ghost use Rattle.batch.specs.Layout.{ReadsItsLayout};
+ghost use Rattle.batch.specs.Layout.{LayoutLaws};
 ghost use Rattle.batch.specs.Steps.{samplesAnswer};
 
 pub const MOST_SAMPLES: usize = 400;
@@ -24,11 +29,11 @@ pub const ROW_WORDS: usize = widths::NUMBER_WORDS
 pub const MOST_ANSWER: usize = 1 + MOST_SAMPLES * ROW_WORDS;
 
 // Judges a batch, and writes the answer to the start of the lent slice. After a refusal that is as it was. The third promise
-// says that what was read of a batch is all that its words say.
+// says that what was read of a batch is all that its words say, and that every batch can be read from its words.
 pub fn judge_batch(words: &[u32], out: &mut [u32]) -> Written
     ensures answer { λ r. ⌜ writtenOutcome r ≡ lengthOf (fitting (length (now (out .entry))) (batchAnswer (now (words .entry)))) ⌝ }
     ensures lent { λ _. ⌜ now (out .exit) ≡ lentAfter (fitting (length (now (out .entry))) (batchAnswer (now (words .entry)))) (now (out .entry)) ⌝ }
-    ensures layout { λ _. ⌜ ReadsItsLayout ⌝ }
+    ensures layout { λ _. ⌜ LayoutLaws ⌝ }
 {
     let read = chart_section::read(words);
     let ended = read.ended;
@@ -60,5 +65,17 @@ fn judge_samples(words: &[u32], elements: &[u32], signals: &[u32], out: &mut [u3
             Written::Length(size)
         }
         Written::Refused(why) => Written::Refused(why),
+    }
+}
+
+// A batch's own tests alone: nothing is judged.
+pub fn test(words: &[u32]) -> Acceptance
+    ensures { λ r. ⌜ acceptanceOutcome r ≡ testOf (now (words .entry)) ⌝ }
+{
+    let read = chart_section::read(words);
+    let ended = read.ended;
+    match ended {
+        Ended::Whole(size) => testing::test_samples(&words[size..]),
+        Ended::Refused(why) => Acceptance::Refused(why),
     }
 }

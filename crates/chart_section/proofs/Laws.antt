@@ -1,4 +1,4 @@
--- For the crates above: what the answer to the charts' section says of the charts, and the words that they stand for.
+-- For the crates above: what the answer to the charts' section says of the charts.
 use mathlib.Core.Path.{_≡_, refl, sym, ap, _∙_}
 use mathlib.Core.List.{List, _++_, map}
 use Prim.Native.Nat.{ℕ, _-_, _≤_}
@@ -16,10 +16,7 @@ use Rattle.chart_section.specs.declared.Ended.the-variants as ended
 use Rattle.chart_section.specs.ChartSection.{Chart, mostCharts, elementsOf, signalOf, signalsIn, chartsOf, chartWords}
 use Rattle.chart_section.specs.Columns.{ColumnTerms, column, columnsOf, columnsBy, endOf, termsOf}
 use Rattle.chart_section.proofs.ColumnLaws.{column-front, column-length}
-use Rattle.chart_section.proofs.StandLaws as stand
-
-pub charts-stand : (s : List ℕ) (cs : List Chart) (rest : List ℕ) → chartsOf s ≡ taken cs rest → s ≡ sectionWords chartWords cs ++ rest
-charts-stand = stand.charts-stand
+use Rattle.chart_section.proofs.StandLaws.{charts-valid, charts-stand}
 
 -- the charts of the words s, as the columns hold them: so many words from the front
 pub record Held (s : List ℕ) (r : ChartColumns) (size : ℕ) : Type 0 where
@@ -71,7 +68,7 @@ module _ (s : List ℕ) (r : ChartColumns) (told : termsOf r ≡ columnsOf s) wh
       let es : r .elements ≡ column (elementsOf cs) = ap (λ (c : ColumnTerms). c .elements) all in
       let gs : r .signals ≡ column (signalsIn cs) = ap (λ (c : ColumnTerms). c .signals) all in
       let left : rest ≡ drop size s = behind s (sectionWords chartWords cs) rest (charts-stand s cs rest (t .2)) ∙ ap (λ (k : ℕ). drop k s) (t .3) in
-      let few = stand.charts-few s cs rest (t .2) in
+      let few = charts-valid s cs rest (t .2) .few in
       record {
         charts = cs;
         read = t .2 ∙ ap (taken cs) left;

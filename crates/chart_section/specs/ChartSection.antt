@@ -10,7 +10,7 @@ use Rattle.refusal.specs.Outcome.{demand}
 use Rattle.refusal.specs.Numbers.{numberOf}
 use Rattle.refusal.specs.declared.Refusal.the-variants as refusal
 use Rattle.record.specs.Record.{isElement}
-use Rattle.chart.specs.Values.{countsFit, allValues}
+use Rattle.chart.specs.Values.{mostSetup, mostLater, countsFit, allValues}
 use Rattle.chart.specs.Charts.{lastWord}
 use Rattle.words.specs.FromFront.{Read, taken, whole, section}
 
@@ -52,6 +52,10 @@ chartWith used e setup later s =
 -- 'a chart's first three words'
 abbrev pub headWords : ℕ
 headWords = 3
+
+-- the words of a chart that has the most values of both sorts
+abbrev pub mostChart : ℕ
+mostChart = headWords + (mostSetup + mostLater)
 
 unfoldable pub chartOf : List ℕ → List ℕ → Read Chart
 chartOf used s = whole headWords s (chartWith used (getD s 0 0) (getD s 1 0) (getD s 2 0) (drop headWords s))

@@ -3,6 +3,8 @@ mod charts;
 mod elements;
 mod first;
 
+use chart::values::MOST_LATER;
+use chart::values::MOST_SETUP;
 use refusal::Refusal;
 ghost use mathlib.Core.Path.{_≡_};
 ghost use Rattle.chart_section.specs.Columns.{columnsOf, termsOf};
@@ -11,6 +13,9 @@ pub const MOST_CHARTS: usize = 10;
 
 // A chart's words before its values: element, setup count and later count.
 pub const HEAD_WORDS: usize = 3;
+
+// The words of a chart that has the most values of both sorts.
+pub const MOST_CHART: usize = HEAD_WORDS + (MOST_SETUP + MOST_LATER);
 
 // How reading the charts' section ended: whole, with so many words, or refused.
 pub enum Ended {

@@ -1,16 +1,16 @@
 -- The ways of a tested record through the code: its verdicts by the checks, and its answer by how its own tests ended.
-use mathlib.Core.Path.{_≡_, sym, ap}
+use mathlib.Core.Path.{_≡_, sym, ap, _∙_}
 use mathlib.Core.List.{List}
 use Prim.Native.Nat.{ℕ}
 use Rattle.refusal.specs.Outcome.Outcome.{given, refused}
 use Rattle.refusal.specs.Numbers.{numberOf}
 use Rattle.refusal.specs.declared.Refusal.{Refusal}
+use Rattle.record.specs.declared.Tested.{Tested}
 use Rattle.record.specs.declared.Tested.the-variants as tested
 use Rattle.record.specs.declared.TestedRecord.{TestedRecord}
 use Rattle.record.specs.Record.{ammonium, sodium, nitrate, chloride, totalNitrogen, organicCarbon}
-use Rattle.record.specs.Tested.{Fields, analyteAt, fieldsIn, termsOf, testedOf}
-use Rattle.record.proofs.AcceptedLaws.{valid-accepted}
-use Rattle.record.proofs.TestedLaws.{tested-valid, tested-refused}
+use Rattle.record.specs.Tested.{Fields, analyteAt, fieldsIn, testedOutcome, termsOf, acceptedOf}
+use Rattle.record.proofs.AcceptedLaws.{accepted-given, valid-accepted, refused-for-all}
 use Rattle.solution.specs.declared.Solution.{Solution}
 use Rattle.solution.specs.Solutions.{sumsIn}
 use Rattle.solution.specs.ByValue.{sumsBy}
@@ -44,11 +44,11 @@ module _ (own : TestedRecord) where
   is-refused e = rw e
 
 -- the record's own tests alone
-module _ (s : List ℕ) (own : TestedRecord) (t : termsOf own ≡ testedOf s) where
-  pub accepts : {floor : ℕ} → own .tested ≡ tested.Accepted floor → given tt ≡ acceptanceOf s
+module _ (s : List ℕ) {r : Tested} (told : testedOutcome r ≡ acceptedOf s) where
+  pub accepts : {floor : ℕ} → r ≡ tested.Accepted floor → given tt ≡ acceptanceOf s
   unfolding acceptanceOf
-  accepts e = sym (valid-accepted s (given tt) (tested-valid {s = s} {r = own} (record { answered = t }) e .0))
+  accepts {floor} e = sym (valid-accepted s (given tt) (accepted-given s _ floor (sym told ∙ ap testedOutcome e) .0))
 
-  pub refuses : {why : Refusal} → own .tested ≡ tested.Refused why → refused (numberOf why) ≡ acceptanceOf s
+  pub refuses : {why : Refusal} → r ≡ tested.Refused why → refused (numberOf why) ≡ acceptanceOf s
   unfolding acceptanceOf
-  refuses e = tested-refused {s = s} {r = own} (record { answered = t }) e (given tt)
+  refuses {why} e = sym (refused-for-all s _ (numberOf why) (sym told ∙ ap testedOutcome e) (given tt))

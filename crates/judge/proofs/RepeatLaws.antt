@@ -15,6 +15,7 @@ use Rattle.agreement.proofs.Laws.{compared-valid, valid-compared}
 use Rattle.judge.specs.Judgements.{Four, verdictsOf, judgementOf}
 use Rattle.judge.specs.Repeats.{sameSampleOf, agrees, acceptanceOf, Compared, comparedBy, comparisonOf}
 use Rattle.judge.specs.Repeats.Compared.{otherSample, differing, agreeing}
+use Rattle.judge.proofs.Laws.{valid-judged}
 
 module _ (s : List ℕ) where
   pub accepted-valid : acceptanceOf s ≡ given tt → Valid s
@@ -33,6 +34,14 @@ module _ (s : List ℕ) where
   pub judged-refuses : {n : ℕ} → judgementOf s ≡ refused n → acceptanceOf s ≡ refused n
   unfolding judgementOf acceptanceOf
   judged-refuses e = refused-for-all s (verdictsOf s) _ e (given tt)
+
+  -- and the other way round
+  pub accepted-judged : acceptanceOf s ≡ given tt → judgementOf s ≡ given (verdictsOf s)
+  accepted-judged e = valid-judged s (accepted-valid e)
+
+  pub refused-judged : {n : ℕ} → acceptanceOf s ≡ refused n → judgementOf s ≡ refused n
+  unfolding judgementOf acceptanceOf
+  refused-judged e = refused-for-all s tt _ e (given (verdictsOf s))
 
 -- how two tested records compare: whether they are of one sample is asked only where both are records
 pub compared-held : {s t : List ℕ} {one other : TestedRecord} → OwnTests s one → OwnTests t other

@@ -18,7 +18,7 @@ use Rattle.refusal.proofs.Testing.{both}
 use Rattle.words.specs.Words.{wordsOf}
 use Rattle.batch.specs.Rows.{Width, rowWidths, rowWords, batchAnswer, rowAt, rowFields, FieldsFit, SmallRow, Listed}
 use Rattle.batch.proofs.Laws.{answer-listed}
-use Rattle.listing.specs.Input.{isInput}
+use Rattle.batch.specs.Input.{isInput}
 use Rattle.listing.specs.Decimal.{decimal}
 use Rattle.listing.specs.Listing.{ending, line, rowLine, rowLines, listingText, refusedWord, refusedText, textOf, listText, countWidth, longestLine, mostText, TextFits}
 use Rattle.listing.proofs.DecimalLaws.{decimal-within, decimal-most}

@@ -1,25 +1,18 @@
--- The most bytes of a batch; the text of bytes, by the test of their length; and a text made apart, which is lent from its start.
+-- The text of bytes, by the test of their length; and a text made apart, which is lent from its start.
 use mathlib.Core.Bool.{true, false}
-use mathlib.Core.Path.{_≡_, refl, ap, _∙_}
+use mathlib.Core.Path.{_≡_, ap, _∙_}
 use mathlib.Core.List.{List, _++_}
-use Prim.Native.Nat.{ℕ, _-_, _%_, _≤_}
+use Prim.Native.Nat.{ℕ, _-_, _≤_}
 use native.Mathlib.Omega.{arith}
-use borrow.Author.Tests.{leb-true}
-use lib.Dec.{eqb, leb}
 use lib.ListN.{length, take, drop, length-append}
 use lib.Seq.{take-at}
 use Rattle.refusal.specs.declared.Refusal.the-variants as refusal
 use Rattle.refusal.specs.Numbers.{numberOf}
-use Rattle.refusal.proofs.Testing.{both}
-use Rattle.words.specs.Words.{wordBytes, wordsOf}
+use Rattle.words.specs.Words.{wordsOf}
 use Rattle.batch.specs.Rows.{batchAnswer}
-use Rattle.listing.specs.Input.{mostBytes, ByteLimit, isInput}
+use Rattle.batch.specs.Input.{isInput}
 use Rattle.listing.specs.Listing.{refusedText, textOf, listText, TextFits}
 use Rattle.listing.proofs.LengthLaws.{text-fits}
-
--- computed: a batch that has the most of all is as long as the document says
-pub byte-limit : ByteLimit
-byte-limit = refl
 
 module _ (b : List ℕ) where
   -- bytes of another length are refused before any other test
@@ -31,10 +24,6 @@ module _ (b : List ℕ) where
   pub text-judged : isInput b ≡ true → listText b ≡ textOf (batchAnswer (wordsOf b))
   unfolding listText
   text-judged h = simp h
-
-  pub input-within : isInput b ≡ true → length b ≤ mostBytes
-  unfolding isInput
-  input-within h = leb-true (length b) mostBytes (both (eqb (length b % wordBytes) 0) (leb (length b) mostBytes) h .1)
 
   -- written to the start of a text, it is all that is promised of it
   pub text-written : {s text : List ℕ} {k : ℕ} (old : List ℕ) → listText b ≡ s → k ≡ length s → text ≡ s ++ drop (length s) old

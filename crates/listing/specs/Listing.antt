@@ -11,7 +11,7 @@ use Rattle.refusal.specs.Outcome.Outcome.{given, refused}
 use Rattle.batch.specs.Batches.{mostSamples}
 use Rattle.batch.specs.Rows.{Width, rowWidths, rowWords, batchAnswer, rowFields}
 use Rattle.words.specs.Words.{wordsOf}
-use Rattle.listing.specs.Input.{isInput}
+use Rattle.batch.specs.Input.{isInput}
 use Rattle.listing.specs.Decimal.{decimal}
 
 -- ASCII codes

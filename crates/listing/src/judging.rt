@@ -1,9 +1,7 @@
 // A batch judged, and the text of its answer: each `put` writes to the start of `text`, and answers how long the text is.
-use crate::MOST_BYTES;
-use crate::MOST_WORDS;
 use crate::lines;
+use batch::input::MOST_WORDS;
 use refusal::Written;
-use words::WORD_BYTES;
 ghost use mathlib.Core.Path.{_≡_};
 ghost use Prim.Native.Nat.{_≤_};
 ghost use lib.ListN.{length};
@@ -11,19 +9,9 @@ ghost use Rattle.refusal.specs.Outcome.Outcome.{given};
 ghost use Rattle.refusal.specs.Lent.{lentAfter};
 ghost use Rattle.batch.specs.Rows.{batchAnswer};
 ghost use Rattle.words.specs.Words.{wordsOf};
-ghost use Rattle.listing.specs.Input.{mostBytes, isInput};
+ghost use Rattle.batch.specs.Input.{mostBytes};
 ghost use Rattle.listing.specs.Listing.{textOf, mostText};
 ghost use Rattle.listing.specs.Steps.{answerIn, Answered};
-
-// Whether bytes are whole words, and no more of them than a batch has.
-pub fn is_input(bytes: &[u8]) -> bool
-    ensures { λ r. ⌜ r ≡ isInput (now (bytes .entry)) ⌝ }
-{
-    if bytes.len() % WORD_BYTES != 0 {
-        return false;
-    }
-    bytes.len() <= MOST_BYTES
-}
 
 // The text of a batch lent as bytes.
 pub fn put_text(text: &mut [u8], bytes: &[u8]) -> usize

@@ -6,29 +6,18 @@ mod lending;
 mod lines;
 
 use batch::MOST_SAMPLES;
+use batch::input;
 use batch::widths;
-use chart::values::MOST_LATER;
-use chart::values::MOST_SETUP;
-use chart_section::HEAD_WORDS;
-use chart_section::MOST_CHARTS;
 use refusal::Refusal;
 use refusal::Written;
-use words::WORD_BYTES;
 ghost use mathlib.Core.Path.{_≡_};
 ghost use Prim.Native.Nat.{_≤_};
 ghost use lib.ListN.{length};
 ghost use Rattle.refusal.specs.Outcome.Outcome.{given};
 ghost use Rattle.refusal.specs.Lent.{fitting, lengthOf, lentAfter, writtenOutcome};
-ghost use Rattle.listing.specs.Input.{ByteLimit};
+ghost use Rattle.batch.specs.Input.{ByteLimit};
 ghost use Rattle.listing.specs.Decimal.{DecimalTruth};
 ghost use Rattle.listing.specs.Listing.{listText, TextFits};
-
-// The words of a batch that has the most of all: two sections, each after its count, of charts and of records.
-const MOST_WORDS: usize = (1 + MOST_CHARTS * (HEAD_WORDS + (MOST_SETUP + MOST_LATER)))
-    + (1 + MOST_SAMPLES * record::WORDS);
-
-// The most bytes that hold a batch.
-pub const MOST_BYTES: usize = WORD_BYTES * MOST_WORDS;
 
 // The digits of the greatest count of samples.
 const COUNT_DIGITS: usize = 3;
@@ -51,7 +40,7 @@ pub fn text_of(bytes: &[u8], text: &mut [u8; MOST_TEXT]) -> usize
     ensures within { λ r. ⌜ r ≤ length (now (text .exit)) ⌝ }
     ensures fits { λ _. ⌜ TextFits ⌝ }
 {
-    if !judging::is_input(bytes) {
+    if !input::is_input(bytes) {
         return lines::put_refusal(text, Refusal::BatchLength);
     }
     judging::put_text(text, bytes)

@@ -3,5 +3,8 @@ mod PackedLaws
 mod PlacingLaws
 pub mod SliceLaws
 pub mod ManyLaws
+pub mod EachLaws
+pub mod SectionLaws
 pub mod TakenLaws
+pub mod BackLaws
 pub mod Laws

@@ -17,6 +17,7 @@ use Rattle.refusal.proofs.Rows.{row-given}
 use Rattle.refusal.proofs.Outcomes.{never}
 use Rattle.words.specs.FromFront.{Read, taken, then, many, section}
 use Rattle.words.specs.Sections.{allWords, sectionWords}
+use Rattle.words.specs.Each.{EachAfter}
 
 -- ---- a part and what follows
 
@@ -30,17 +31,13 @@ taken-same {A} {a} {b} {r} {t} e =
     let pair : _≡_ {A = A × List ℕ} (a, r) (b, t) = cc in
     (ap (λ (p : A × List ℕ). p .0) pair, ap (λ (p : A × List ℕ). p .1) pair)
 
-abbrev pub Every : {A : Type 0} → (A → Type 0) → List A → Type 0
-Every P [] = Unit {0}
-Every P (a ∷ l) = P a × Every P l
-
 -- a part that was taken has P, and stands at the front by its words
-abbrev pub Stands : {A : Type 0} → (A → Type 0) → (A → List ℕ) → (List A → List ℕ → Read A) → Type 0
-Stands {A} P words part = (before : List A) (s : List ℕ) (a : A) (rest : List ℕ) → part before s ≡ taken a rest → P a × (s ≡ words a ++ rest)
+abbrev pub Stands : {A : Type 0} → (List A → A → Type 0) → (A → List ℕ) → (List A → List ℕ → Read A) → Type 0
+Stands {A} P words part = (before : List A) (s : List ℕ) (a : A) (rest : List ℕ) → part before s ≡ taken a rest → P before a × (s ≡ words a ++ rest)
 
-module _ {A : Type 0} (P : A → Type 0) (words : A → List ℕ) (part : List A → List ℕ → Read A) (stands : Stands P words part) where
+module _ {A : Type 0} (P : List A → A → Type 0) (words : A → List ℕ) (part : List A → List ℕ → Read A) (stands : Stands P words part) where
   many-taken : (n : ℕ) (before : List A) (s : List ℕ) (all : List A) (rest : List ℕ) → many part n before s ≡ taken all rest
-      → (new : List A) × (all ≡ before ++ new) × (length new ≡ n) × Every P new × (s ≡ allWords words new ++ rest)
+      → (new : List A) × (all ≡ before ++ new) × (length new ≡ n) × EachAfter P before new × (s ≡ allWords words new ++ rest)
   unfolding many allWords
   many-taken zero before s all rest e =
       let t = taken-same e in
@@ -58,7 +55,7 @@ module _ {A : Type 0} (P : A → Type 0) (words : A → List ℕ) (part : List A
       )
 
   pub section-taken : (most : ℕ) (s : List ℕ) (all : List A) (rest : List ℕ) → section most part s ≡ taken all rest
-      → (length all ≤ most) × Every P all × (s ≡ sectionWords words all ++ rest)
+      → (length all ≤ most) × EachAfter P [] all × (s ≡ sectionWords words all ++ rest)
   unfolding section
   section-taken most s all rest e =
       let tests : List (Bool × ℕ) = (leb 1 (length s), numberOf refusal.BatchLength) ∷ (leb (getD s 0 0) most, numberOf refusal.Count) ∷ [] in

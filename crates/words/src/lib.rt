@@ -1,11 +1,11 @@
-// Slices of words of 32 bits: made of bytes, and put into others. Each call goes as far as there is room, so that it takes
-// every slice.
+// Slices of words of 32 bits: made of bytes, made bytes again, and put into others. Each call goes as far as there is room, so
+// that it takes every slice.
 mod packed;
 
 ghost use mathlib.Core.Path.{_≡_};
 ghost use Prim.Native.Nat.{_-_, _≤_, min};
 ghost use lib.ListN.{length};
-ghost use Rattle.words.specs.Words.{wordsOf};
+ghost use Rattle.words.specs.Words.{wordsOf, bytesOf, BytesHoldWords};
 ghost use Rattle.words.specs.Placing.{within, placedWithin};
 
 // The bytes of a word.
@@ -22,6 +22,22 @@ pub fn unpack(bytes: &[u8], words: &mut [u32]) -> usize
     let mut i: usize = 0;
     while i < count {
         words[i] = packed::word(bytes, i * WORD_BYTES);
+        i += 1;
+    }
+    count
+}
+
+// Puts the bytes that hold words at the start of `bytes`, and answers how many it put. The last promise is that words are
+// read from their bytes again.
+pub fn pack(words: &[u32], bytes: &mut [u8]) -> usize
+    ensures answer { λ r. ⌜ r ≡ length (within (now (bytes .entry)) 0 (bytesOf (now (words .entry)))) ⌝ }
+    ensures lent { λ _. ⌜ now (bytes .exit) ≡ placedWithin (now (bytes .entry)) 0 (bytesOf (now (words .entry))) ⌝ }
+    ensures back { λ _. ⌜ BytesHoldWords ⌝ }
+{
+    let count = lesser(WORD_BYTES * words.len(), bytes.len());
+    let mut i: usize = 0;
+    while i < count {
+        bytes[i] = packed::byte(words, i);
         i += 1;
     }
     count

@@ -2,7 +2,8 @@
 use borrow.Author.Needs.{needs}
 use Rattle.listing.specs.Listing.{listText}
 use Rattle.listing.proofs.DecimalLaws.{decimal-truth}
-use Rattle.listing.proofs.TextLaws.{byte-limit, text-made}
+use Rattle.batch.proofs.InputLaws.{byte-limit}
+use Rattle.listing.proofs.TextLaws.{text-made}
 use Rattle.listing.proofs.list.Statement.{statement}
 use Rattle.listing.proofs.list.Tie as tie
 

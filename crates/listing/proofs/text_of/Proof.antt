@@ -4,8 +4,9 @@ use native.Mathlib.Omega.{arith}
 use Rattle.refusal.specs.declared.Refusal.the-variants as refusal
 use Rattle.refusal.specs.Numbers.{numberOf}
 use Rattle.refusal.proofs.Testing.{failed, passed}
+use Rattle.batch.proofs.InputLaws.{input-within}
 use Rattle.listing.proofs.LengthLaws.{refused-fits}
-use Rattle.listing.proofs.TextLaws.{text-refused-first, text-judged, input-within, text-written}
+use Rattle.listing.proofs.TextLaws.{text-refused-first, text-judged, text-written}
 use Rattle.listing.proofs.text_of.Statement.{statement}
 use Rattle.listing.proofs.text_of.Tie as tie
 

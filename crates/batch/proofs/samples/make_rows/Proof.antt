@@ -1,6 +1,6 @@
 -- The section's count is there and within its range, and stands in the buffer: the rest is `make_all`.
 use borrow.Author.Needs.{needs}
-use Rattle.batch.proofs.SampleLaws.{samples-short, samples-over}
+use Rattle.batch.proofs.ReadingLaws.{samples-short, samples-over}
 use Rattle.batch.proofs.samples.make_rows.Statement.{statement}
 use Rattle.batch.proofs.samples.make_rows.Tie as tie
 

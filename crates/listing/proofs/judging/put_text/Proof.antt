@@ -5,7 +5,7 @@ use Prim.Native.Nat.{_/_, _≤_}
 use lib.ListN.{length, replicate}
 use Rattle.words.specs.Words.{wordBytes}
 use Rattle.words.proofs.Laws.{unpacked}
-use Rattle.listing.specs.Input.{mostWords}
+use Rattle.batch.specs.Input.{mostWords}
 use Rattle.listing.proofs.judging.put_text.Statement.{statement}
 use Rattle.listing.proofs.judging.put_text.Tie as tie
 

@@ -1,4 +1,4 @@
--- Document 01, 'A batch', with the limit of document 02 (ii): which bytes the listing program reads as the words of a batch.
+-- Document 01, 'A batch', with the limit of document 02 (ii): which bytes a program reads as the words of a batch.
 use mathlib.Core.Bool.{Bool, _&&_}
 use mathlib.Core.List.{List}
 use mathlib.Core.Path.{_≡_}
@@ -6,15 +6,14 @@ use Prim.Native.Nat.{ℕ, _+_, _*_, _%_}
 use lib.Dec.{leb, eqb}
 use lib.ListN.{length}
 use Rattle.record.specs.Record.{recordWords}
-use Rattle.chart.specs.Values.{mostSetup, mostLater}
 use Rattle.words.specs.Words.{wordBytes}
-use Rattle.chart_section.specs.ChartSection.{mostCharts, headWords}
+use Rattle.chart_section.specs.ChartSection.{mostCharts, mostChart}
 use Rattle.batch.specs.Batches.{mostSamples}
 
 -- 'Two sections, each after its count: charts (0 to 10: element .., setup count, later count, values), then samples (0 to 400
 -- records)': the words of a batch that has the most of all
 abbrev pub mostWords : ℕ
-mostWords = (1 + mostCharts * (headWords + (mostSetup + mostLater))) + (1 + mostSamples * recordWords)
+mostWords = (1 + mostCharts * mostChart) + (1 + mostSamples * recordWords)
 
 abbrev pub mostBytes : ℕ
 mostBytes = wordBytes * mostWords

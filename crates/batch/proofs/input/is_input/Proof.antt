@@ -1,8 +1,8 @@
 -- The two tests of the definition, in its order.
 use borrow.Author.Tests.{eq-eqb, ne-eqb}
-use Rattle.listing.specs.Input.{isInput}
-use Rattle.listing.proofs.judging.is_input.Statement.{statement}
-use Rattle.listing.proofs.judging.is_input.Tie as tie
+use Rattle.batch.specs.Input.{isInput}
+use Rattle.batch.proofs.input.is_input.Statement.{statement}
+use Rattle.batch.proofs.input.is_input.Tie as tie
 
 returns : tie.Need-returns
 unfolding isInput
