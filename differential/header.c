@@ -477,6 +477,97 @@ static void listings(void)
     hold("a word more", PELTQUARRY_REFUSED_BATCH_LENGTH, listed(length + 4, room, &size));
 }
 
+/* The batch before a tray change, which the one in the making is joined to; and the joined one. */
+static uint32_t before[PELTQUARRY_MOST_BATCH];
+static size_t before_length;
+static uint32_t joined[PELTQUARRY_MOST_BATCH];
+
+static void change_the_tray(void)
+{
+    memcpy(before, batch, batch_length * sizeof batch[0]);
+    before_length = batch_length;
+    batch_length = 0;
+}
+
+static uint32_t joined_in(size_t room, size_t *size)
+{
+    return peltquarry_join(before, before_length, batch, batch_length, joined, room, size);
+}
+
+/* One chart, and so many samples. */
+static void put_batch(uint32_t setup, uint32_t later, uint32_t samples)
+{
+    batch_length = 0;
+    put(1);
+    put_chart(PELTQUARRY_ELEMENT(PELTQUARRY_NH4_N), setup, later);
+    put(samples);
+    for (uint32_t i = 0; i < samples; i++) {
+        put_record(printed());
+    }
+}
+
+static void joined_charts(void)
+{
+    const uint32_t few = PELTQUARRY_LEAST_SETUP, most = PELTQUARRY_MOST_LATER;
+    const size_t room = PELTQUARRY_MOST_BATCH;
+    const size_t length = 1 + PELTQUARRY_CHART_HEAD + few + most + 1 + 2 * PELTQUARRY_RECORD_WORDS;
+    const uint32_t *later = joined + 1 + PELTQUARRY_CHART_HEAD + few;
+    size_t size = 0;
+    put_batch(few, most - 1, 1);
+    change_the_tray();
+    put_batch(few, 1, 1);
+    batch[1 + PELTQUARRY_CHART_HEAD + few] = 3000;
+    hold("two batches joined", PELTQUARRY_DONE, joined_in(room, &size));
+    hold("their words", length, size);
+    hold("their chart's later values", most, joined[1 + PELTQUARRY_CHART_LATER]);
+    hold("the first batch's last of them", 2000, later[most - 2]);
+    hold("the second batch's", 3000, later[most - 1]);
+    hold("a word less than they have", PELTQUARRY_REFUSED_OUTPUT_LENGTH, joined_in(length - 1, &size));
+    batch[1 + PELTQUARRY_CHART_HEAD]++;
+    hold("another setup value", PELTQUARRY_REFUSED_SETUP_DIFFERS, joined_in(room, &size));
+    put_batch(few + 1, 2, 1);
+    hold("another count of setup values", PELTQUARRY_REFUSED_SETUP_DIFFERS, joined_in(room, &size));
+    put_batch(few, 2, 1);
+    hold("too many joined later values", PELTQUARRY_REFUSED_JOINED_COUNT, joined_in(room, &size));
+    hold("the length after a refusal", length, size);
+}
+
+/* A chart found only in the second batch comes after the first's, wherever it stands there. */
+static void order_of_joined_charts(void)
+{
+    const uint32_t few = PELTQUARRY_LEAST_SETUP;
+    const uint32_t *chart = joined + 1;
+    size_t size = 0;
+    put_batch(few, 1, 0);
+    change_the_tray();
+    put(2);
+    put_chart(PELTQUARRY_ELEMENT(PELTQUARRY_DOC), few, 0);
+    put_chart(PELTQUARRY_ELEMENT(PELTQUARRY_NH4_N), few, 1);
+    put(0);
+    hold("charts in both and in one", PELTQUARRY_DONE, joined_in(PELTQUARRY_MOST_BATCH, &size));
+    hold("their number", 2, joined[0]);
+    hold("the chart in both", PELTQUARRY_ELEMENT(PELTQUARRY_NH4_N), chart[PELTQUARRY_CHART_ELEMENT]);
+    hold("its later values", 2, chart[PELTQUARRY_CHART_LATER]);
+    chart += PELTQUARRY_CHART_HEAD + few + 2;
+    hold("the chart in the second alone", PELTQUARRY_ELEMENT(PELTQUARRY_DOC), chart[PELTQUARRY_CHART_ELEMENT]);
+}
+
+static void joined_samples(void)
+{
+    const size_t room = PELTQUARRY_MOST_BATCH;
+    size_t size = 0;
+    put_the_greatest_batch();
+    change_the_tray();
+    put(0);
+    put(0);
+    hold("the greatest batch and an empty one", PELTQUARRY_DONE, joined_in(room, &size));
+    hold("their words", room, size);
+    hold("a word less", PELTQUARRY_REFUSED_OUTPUT_LENGTH, joined_in(room - 1, &size));
+    batch[1] = 1;
+    put_record(printed());
+    hold("too many joined samples", PELTQUARRY_REFUSED_JOINED_COUNT, joined_in(room, &size));
+}
+
 int main(void)
 {
     lengths_of_a_record();
@@ -491,5 +582,8 @@ int main(void)
     the_greatest_batch();
     counts_and_elements();
     listings();
+    joined_charts();
+    order_of_joined_charts();
+    joined_samples();
     return differences == 0 ? 0 : 1;
 }

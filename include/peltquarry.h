@@ -3,8 +3,8 @@
  *
  * A record, a docket, a batch and an answer are words of 32 bits, lent as a pointer and a number of words. Where each word stands
  * and how many there are is named below; what they mean stands in document 01, 'A record', 'A reading' and 'A batch',
- * and in document 02 (i) and (ii): readings are floats in mg/L as before; the values of a chart are in tenths of a µg/L, like the
- * amounts that readings are rounded to; a sample's number has up to 15 digits, and two words.
+ * and in document 02 (i) to (iii): readings are floats in mg/L as before; the values of a chart are in tenths of a µg/L, like the
+ * amounts that readings are rounded to; a sample's number has up to 15 digits, and two words; two batches of one day are joined.
  *
  * Every call returns 0 where it did what was asked, else the number of a refusal:
  *
@@ -21,14 +21,16 @@
  *   11  the docket is closed, or is one that no offers produce
  *   12  the whole number or the kind of the sample differs from that of the record held
  *   13  the lent output has fewer words than the answer
+ *   14  two batches that are joined have a chart of one element with other setup values, another number or another order of them
+ *   15  a chart of both would have over PELTQUARRY_MOST_LATER later values, or both together over PELTQUARRY_MOST_SAMPLES samples
  *
  * The tests are made in the order given with each call, and the first that fails is returned. After a refusal all lent words
  * are as they were. An answer stands in the first words of the lent output; the words beyond it are as they were.
  *
  * What a caller owes, since C does not: a pointer is not null (also where no word is lent), and points to as many words as are
- * said to be lent; the words of an output are lent to the one call alone, so an output and an input never overlap. Nothing else
- * is asked: any words, any lengths and any floats may be handed in. No call keeps a pointer, allocates or holds a state of its
- * own, so that calls on other words may run at the same time.
+ * said to be lent; the words of an output are lent to the one call alone, so an output (a *size too) never overlaps an input or
+ * another output; inputs may be the same words. Nothing else is asked: any words, any lengths and any floats may be handed in. No
+ * call keeps a pointer, allocates or holds a state of its own, so that calls on other words may run at the same time.
  */
 #ifndef PELTQUARRY_H
 #define PELTQUARRY_H
@@ -168,6 +170,8 @@ extern "C" {
 #define PELTQUARRY_REFUSED_DOCKET_CLOSED 11
 #define PELTQUARRY_REFUSED_OTHER_SAMPLE 12
 #define PELTQUARRY_REFUSED_OUTPUT_LENGTH 13
+#define PELTQUARRY_REFUSED_SETUP_DIFFERS 14
+#define PELTQUARRY_REFUSED_JOINED_COUNT 15
 
 /*
  * Judges a record. Into verdicts: PELTQUARRY_VERDICT_WORDS words, the verdicts on ion balance, conductivity, sodium/chloride ratio
@@ -211,6 +215,17 @@ uint32_t peltquarry_signals(const uint32_t *setup, size_t setup_len, const uint3
  * Refused by the first thing that is wrong in it, 2 to 10, then 13.
  */
 uint32_t peltquarry_batch(const uint32_t *words, size_t words_len, uint32_t *answer, size_t answer_len);
+
+/*
+ * Joins two batches of one day, as those before and after a tray change. Into joined: the words of one batch, at most
+ * PELTQUARRY_MOST_BATCH. Its charts are the first's and then those found only in the second; a chart of both has the first's later
+ * values and then the second's. Its samples are the first's and then the second's, each as it was. How many words it has into *size,
+ * which a refusal leaves as it was; so many of them are what peltquarry_batch takes.
+ * Refused by the first thing that is wrong in the first batch, 2 to 10, then in the second; then chart by chart, those of the first
+ * in their order, 14 before 15; then 15 by the samples, then 13.
+ */
+uint32_t peltquarry_join(const uint32_t *first, size_t first_len, const uint32_t *second, size_t second_len, uint32_t *joined,
+                         size_t joined_len, size_t *size);
 
 /*
  * The listing of a batch, given as the bytes of its words, least byte first. Into text: the text that the program peltquarry

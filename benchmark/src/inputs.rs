@@ -85,22 +85,43 @@ pub fn a_chart(random: &mut Random, setup: usize, later: usize) -> (Vec<u32>, Ve
     (before, after)
 }
 
-/// Five charts of 30 + 30 values, and so many samples.
-pub fn a_batch(random: &mut Random, samples: usize) -> Vec<u32> {
-    let mut words = vec![5];
-    for element in 1..=5 {
-        let (setup, later) = a_chart(random, 30, 30);
-        let mut head = [0; CHART_HEAD];
-        head[CHART_ELEMENT] = element;
-        head[CHART_SETUP] = setup.len() as u32;
-        head[CHART_LATER] = later.len() as u32;
-        words.extend(head);
-        words.extend(setup);
-        words.extend(later);
-    }
+fn chart_words(element: u32, setup: &[u32], later: &[u32]) -> Vec<u32> {
+    let mut head = [0; CHART_HEAD];
+    head[CHART_ELEMENT] = element;
+    head[CHART_SETUP] = setup.len() as u32;
+    head[CHART_LATER] = later.len() as u32;
+    [&head, setup, later].concat()
+}
+
+/// A chart of 30 + 30 values.
+fn an_element(random: &mut Random, element: u32) -> Vec<u32> {
+    let (setup, later) = a_chart(random, 30, 30);
+    chart_words(element, &setup, &later)
+}
+
+/// These charts, and so many samples.
+fn with_samples(random: &mut Random, charts: &[Vec<u32>], samples: usize) -> Vec<u32> {
+    let mut words = vec![charts.len() as u32];
+    words.extend(charts.concat());
     words.push(samples as u32);
     for _ in 0..samples {
         words.extend(a_record(random));
     }
     words
+}
+
+/// Five charts, and so many samples.
+pub fn a_batch(random: &mut Random, samples: usize) -> Vec<u32> {
+    let charts: Vec<_> = (1..=5).map(|e| an_element(random, e)).collect();
+    with_samples(random, &charts, samples)
+}
+
+/// Two batches of so many samples each, with two charts each, of which one is in
+/// both.
+pub fn a_pair(random: &mut Random, samples: usize) -> [Vec<u32>; 2] {
+    let (setup, later) = a_chart(random, 30, 60);
+    let (before, after) = later.split_at(30);
+    let of_first = [an_element(random, 1), chart_words(2, &setup, before)];
+    let of_second = [chart_words(2, &setup, after), an_element(random, 3)];
+    [of_first, of_second].map(|charts| with_samples(random, &charts, samples))
 }

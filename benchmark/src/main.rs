@@ -11,7 +11,7 @@ mod plain;
 mod proved;
 mod rows;
 
-use rows::Row;
+use rows::{Row, GROUPS};
 use std::time::{Duration, Instant};
 
 const ROUNDS: usize = 100;
@@ -60,11 +60,19 @@ fn per_piece(time: Duration, pieces: usize) -> f64 {
 
 /// The sides and the rows take turns, so that a slow moment of the machine
 /// meets all of them, and each has its share of the quiet ones.
-fn print_table() {
-    let mut rows: Vec<Measured> = rows::all().into_iter().map(Measured::new).collect();
+fn measured(rows: Vec<Row>) -> Vec<Measured> {
+    let mut rows: Vec<Measured> = rows.into_iter().map(Measured::new).collect();
     for _ in 0..ROUNDS {
         rows.iter_mut().for_each(Measured::run);
     }
+    rows
+}
+
+/// A group's rows are made only when the group before is measured, so that a new
+/// group moves no older row.
+fn print_table() {
+    let groups = GROUPS.into_iter();
+    let rows: Vec<Measured> = groups.flat_map(|rows| measured(rows())).collect();
     println!(
         "{:<34}{:>12}{:>12}{:>8}",
         "", "proved ns", "Rust ns", "ratio"
@@ -73,8 +81,9 @@ fn print_table() {
 }
 
 fn run_once(side: &str, name: &str) {
-    let mut row = rows::all()
+    let mut row = GROUPS
         .into_iter()
+        .flat_map(|rows| rows())
         .find(|row| row.key == name)
         .unwrap_or_else(|| panic!("no row {name}"));
     match side {

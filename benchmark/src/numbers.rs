@@ -1,4 +1,4 @@
-//! The numbers of documents 01 and 02 (i) and (ii) that both sides of a row go by: where words
+//! The numbers of documents 01 and 02 (i) to (iii) that both sides of a row go by: where words
 //! stand, how many there are and how far values reach.
 
 // A record.
@@ -56,11 +56,15 @@ pub const LEAST_SETUP: usize = 10;
 pub const MOST_SETUP: usize = 64;
 pub const MOST_LATER: usize = 64;
 pub const MOST_VALUE: u32 = 2_000_000;
+pub const MOST_CHART: usize = CHART_HEAD + MOST_SETUP + MOST_LATER;
 
 // A batch and its answer.
 pub const MOST_CHARTS: u32 = 10;
 pub const MOST_SAMPLES: usize = 400;
 pub const COUNT_WORDS: usize = 1;
+/// The longest batch: each section after its count.
+pub const MOST_BATCH: usize =
+    2 * COUNT_WORDS + MOST_CHARTS as usize * MOST_CHART + MOST_SAMPLES * RECORD_WORDS;
 /// Number, high and low, verdicts, flag.
 pub const ROW_WORDS: usize = 2 + CHECKS + 1;
 

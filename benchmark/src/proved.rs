@@ -14,6 +14,15 @@ mod c {
             k: usize,
         ) -> u32;
         pub fn peltquarry_batch(words: *const u32, n: usize, out: *mut u32, m: usize) -> u32;
+        pub fn peltquarry_join(
+            first: *const u32,
+            n: usize,
+            second: *const u32,
+            m: usize,
+            joined: *mut u32,
+            k: usize,
+            size: *mut usize,
+        ) -> u32;
     }
 }
 
@@ -58,4 +67,18 @@ pub fn signals(setup: &[u32], later: &[u32], out: &mut [u32]) -> u32 {
 
 pub fn judge_batch(words: &[u32], out: &mut [u32]) -> u32 {
     unsafe { c::peltquarry_batch(words.as_ptr(), words.len(), out.as_mut_ptr(), out.len()) }
+}
+
+pub fn join(first: &[u32], second: &[u32], joined: &mut [u32], size: &mut usize) -> u32 {
+    unsafe {
+        c::peltquarry_join(
+            first.as_ptr(),
+            first.len(),
+            second.as_ptr(),
+            second.len(),
+            joined.as_mut_ptr(),
+            joined.len(),
+            size,
+        )
+    }
 }

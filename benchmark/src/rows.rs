@@ -2,18 +2,19 @@
 //! adds up what they answer, so that nothing is left out and both can be
 //! compared.
 
-use crate::inputs::{a_batch, a_bottle, a_chart, a_record, Random};
+use crate::inputs::{a_batch, a_bottle, a_chart, a_pair, a_record, Random};
 use crate::numbers::{
-    CHECKS, DOCKET_COUNT, DOCKET_STATE, DOCKET_WORDS, LEAST_PH, MOST_ANSWER, MOST_LATER,
-    MOST_SAMPLES, MOST_SETUP, RECORD_WORDS,
+    CHECKS, DOCKET_COUNT, DOCKET_STATE, DOCKET_WORDS, LEAST_PH, MOST_ANSWER, MOST_BATCH,
+    MOST_LATER, MOST_SAMPLES, MOST_SETUP, RECORD_WORDS,
 };
-use crate::plain::{batch, chart, checks, docket::Docket, Floors};
+use crate::plain::{batch, chart, checks, docket::Docket, join, Floors};
 use crate::proved;
 use reference::hydrogen::Ph;
 
 const RECORDS: usize = 2000;
 const BOTTLES: usize = 700;
 const CHARTS: usize = 300;
+const JOINS: usize = 20;
 
 pub struct Row {
     pub key: &'static str,
@@ -30,6 +31,15 @@ fn floors() -> Floors {
 
 fn sum(words: &[u32]) -> u64 {
     words.iter().map(|&w| u64::from(w)).sum()
+}
+
+/// A sum that also tells the words' order, by each one's place.
+fn sum_by_place(words: &[u32]) -> u64 {
+    let weighed = words
+        .iter()
+        .zip(1..)
+        .map(|(&w, place)| place * u64::from(w));
+    weighed.sum()
 }
 
 fn judging(floors: Floors) -> Row {
@@ -146,10 +156,41 @@ fn batching(key: &'static str, samples: usize, floors: Floors) -> Row {
     }
 }
 
-/// Every row; both sides of each have given the same sum once.
-pub fn all() -> Vec<Row> {
+fn joining(key: &'static str, samples: usize) -> Row {
+    let mut random = Random::new(5);
+    let [first, second] = a_pair(&mut random, samples);
+    let same = [first.clone(), second.clone()];
+    Row {
+        key,
+        name: format!("a sample of {samples} + {samples} joined"),
+        pieces: 2 * samples * JOINS,
+        proved: Box::new(move || {
+            let mut out = [0; MOST_BATCH];
+            let mut size = 0;
+            for _ in 0..JOINS {
+                proved::join(std::hint::black_box(&first), &second, &mut out, &mut size);
+            }
+            sum_by_place(&out) + size as u64
+        }),
+        plain: Box::new(move || {
+            let mut out = [0; MOST_BATCH];
+            let mut size = 0;
+            for _ in 0..JOINS {
+                let [first, second] = &same;
+                size = join::join(std::hint::black_box(first), second, &mut out).unwrap_or(0);
+            }
+            sum_by_place(&out) + size as u64
+        }),
+    }
+}
+
+/// Rows that take turns with each other. Joins have turns of their own after all
+/// others are measured: with them in between, plain Rust's other rows got slower.
+pub const GROUPS: [fn() -> Vec<Row>; 2] = [judgements, joins];
+
+fn judgements() -> Vec<Row> {
     let floors = floors();
-    let mut rows = vec![
+    checked(vec![
         judging(floors),
         following(floors),
         charting("chart30", 30, MOST_LATER),
@@ -157,7 +198,15 @@ pub fn all() -> Vec<Row> {
         batching("batch4", 4, floors),
         batching("batch40", 40, floors),
         batching("batch400", MOST_SAMPLES, floors),
-    ];
+    ])
+}
+
+fn joins() -> Vec<Row> {
+    checked(vec![joining("join400", MOST_SAMPLES / 2)])
+}
+
+/// The rows, once both sides of each have given the same sum.
+fn checked(mut rows: Vec<Row>) -> Vec<Row> {
     for row in &mut rows {
         assert_eq!(
             (row.proved)(),

@@ -8,7 +8,7 @@ use reference::docket::{self, State};
 use reference::readings::Reading;
 use reference::record::Record;
 use reference::refusals::{Refusal, DOCKET, OUTPUT};
-use reference::{batch, charts, listing};
+use reference::{batch, charts, join, listing};
 
 /// The states in the order of their numbers.
 const STATES: [State; 4] = [
@@ -56,6 +56,10 @@ pub fn signals(setup: &[u32], later: &[u32]) -> Result<Vec<u32>, Refusal> {
 
 pub fn batch(words: &[u32]) -> Result<Vec<u32>, Refusal> {
     batch::answer(words)
+}
+
+pub fn join(first: &[u32], second: &[u32]) -> Result<Vec<u32>, Refusal> {
+    join::answer(first, second)
 }
 
 pub fn list(bytes: &[u8]) -> Vec<u8> {

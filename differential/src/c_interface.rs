@@ -16,12 +16,21 @@ extern "C" {
         k: usize,
     ) -> u32;
     fn peltquarry_batch(words: *const u32, n: usize, answer: *mut u32, m: usize) -> u32;
+    fn peltquarry_join(
+        first: *const u32,
+        n: usize,
+        second: *const u32,
+        m: usize,
+        joined: *mut u32,
+        k: usize,
+        size: *mut usize,
+    ) -> u32;
     fn peltquarry_list(
         bytes: *const u8,
         n: usize,
         text: *mut u8,
         m: usize,
-        length: *mut usize,
+        size: *mut usize,
     ) -> u32;
 }
 
@@ -86,14 +95,28 @@ impl Library for Proved {
         }
     }
 
-    fn list(&self, bytes: &[u8], text: &mut [u8], length: &mut usize) -> u32 {
+    fn join(&self, first: &[u32], second: &[u32], joined: &mut [u32], size: &mut usize) -> u32 {
+        unsafe {
+            peltquarry_join(
+                first.as_ptr(),
+                first.len(),
+                second.as_ptr(),
+                second.len(),
+                joined.as_mut_ptr(),
+                joined.len(),
+                size,
+            )
+        }
+    }
+
+    fn list(&self, bytes: &[u8], text: &mut [u8], size: &mut usize) -> u32 {
         unsafe {
             peltquarry_list(
                 bytes.as_ptr(),
                 bytes.len(),
                 text.as_mut_ptr(),
                 text.len(),
-                length,
+                size,
             )
         }
     }

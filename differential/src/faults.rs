@@ -1,7 +1,11 @@
 //! Faults put into the stand-in: each must be found by the part that it names.
 
 mod amounts;
+mod joins;
+mod list;
 mod numbers;
+
+pub use list::{Fault, FAULTS};
 
 use crate::answers;
 use crate::library::Library;
@@ -11,8 +15,9 @@ use crate::numbers::{
     MOST_AMOUNT, MOST_BYTES, MOST_ELEMENT, MOST_VALUE, ORGANIC_CARBON, ROW_FLAG, ROW_WORDS, RUNOFF,
     WORD_BYTES,
 };
-use crate::stand_in::{write, write_text, StandIn};
+use crate::stand_in::{write, write_telling, StandIn};
 use amounts::{in_micrograms, misread, with_amounts};
+use joins::misjoined;
 use numbers::{misnumbered, misnumbered_rows, offer_by_the_low_part, text_of_low_parts};
 use reference::charts::SEVEN_ON_ONE_SIDE;
 use reference::checks::{conductivity, ion_balance, Conductivity, Inequality, IonBalance};
@@ -22,84 +27,7 @@ use reference::record::Record;
 use reference::refusals::{BATCH_LENGTH, CHART, DOCKET, OTHER_SAMPLE};
 use std::cmp::Ordering;
 use std::ops::Range;
-
-#[derive(Clone, Copy, Debug, PartialEq, Eq)]
-pub enum Fault {
-    TieGoesDown,
-    WholeMicrograms,
-    HalfOfTheRounded,
-    ChargeUnitKept,
-    CarbonLineKept,
-    LimitExcluded,
-    FloorForHydrogen,
-    CarbonLineIncluded,
-    TwentyInTheUpperClass,
-    SwappedInTheRecord,
-    TenToTheFifteenTaken,
-    GreatestWordsTaken,
-    RangeByTheLowPart,
-    WritesWhenRefused,
-    WritesBehindTheAnswer,
-    EqualIsBelow,
-    MinusZeroTaken,
-    ExactTenthDisagrees,
-    AgreesInMicrograms,
-    HoldsTheFirst,
-    SampleByTheLowPart,
-    ForeignStateIsOpen,
-    GreatValuesRefused,
-    ValueBeyondTaken,
-    SixOnOneSide,
-    ExactlyThreeIsBeyond,
-    LeftoversTaken,
-    RepeatedElementTaken,
-    MissingElementFlagged,
-    HighDroppedInARow,
-    SwappedInARow,
-    HighDroppedInTheText,
-    LongBytesTaken,
-    LengthToldWhenRefused,
-}
-
 use Fault::*;
-
-/// Every fault with the part that must find it.
-pub const FAULTS: [(Fault, &str); 34] = [
-    (TieGoesDown, "records"),
-    (WholeMicrograms, "records"),
-    (HalfOfTheRounded, "records"),
-    (ChargeUnitKept, "records"),
-    (CarbonLineKept, "records"),
-    (LimitExcluded, "records"),
-    (FloorForHydrogen, "records"),
-    (CarbonLineIncluded, "records"),
-    (TwentyInTheUpperClass, "records"),
-    (SwappedInTheRecord, "records"),
-    (TenToTheFifteenTaken, "records"),
-    (GreatestWordsTaken, "records"),
-    (RangeByTheLowPart, "records"),
-    (WritesWhenRefused, "records"),
-    (WritesBehindTheAnswer, "records"),
-    (EqualIsBelow, "readings"),
-    (MinusZeroTaken, "readings"),
-    (ExactTenthDisagrees, "offers"),
-    (AgreesInMicrograms, "offers"),
-    (HoldsTheFirst, "offers"),
-    (SampleByTheLowPart, "offers"),
-    (ForeignStateIsOpen, "offers"),
-    (GreatValuesRefused, "charts"),
-    (ValueBeyondTaken, "charts"),
-    (SixOnOneSide, "charts"),
-    (ExactlyThreeIsBeyond, "charts"),
-    (LeftoversTaken, "batches"),
-    (RepeatedElementTaken, "batches"),
-    (MissingElementFlagged, "batches"),
-    (HighDroppedInARow, "batches"),
-    (SwappedInARow, "batches"),
-    (HighDroppedInTheText, "batches"),
-    (LongBytesTaken, "batches"),
-    (LengthToldWhenRefused, "batches"),
-];
 
 /// Document 01's line of carbon and greatest chart value, both in whole µg/L:
 /// what they are where amounts became tenths and they didn't.
@@ -199,7 +127,11 @@ impl Library for Faulty {
         }
     }
 
-    fn list(&self, bytes: &[u8], text: &mut [u8], length: &mut usize) -> u32 {
+    fn join(&self, first: &[u32], second: &[u32], joined: &mut [u32], size: &mut usize) -> u32 {
+        misjoined(self.0, first, second, joined, size)
+    }
+
+    fn list(&self, bytes: &[u8], text: &mut [u8], size: &mut usize) -> u32 {
         let bytes = match self.0 {
             // A whole word more than the listing takes.
             LongBytesTaken if bytes.len() == MOST_BYTES + WORD_BYTES => &bytes[..MOST_BYTES],
@@ -208,12 +140,12 @@ impl Library for Faulty {
         let answer = match self.0 {
             HighDroppedInTheText => {
                 let listed = text_of_low_parts(&answers::list(bytes));
-                write_text(&listed, text, length)
+                write_telling(Ok(listed), text, size)
             }
-            _ => StandIn.list(bytes, text, length),
+            _ => StandIn.list(bytes, text, size),
         };
         if self.0 == LengthToldWhenRefused && answer != 0 {
-            *length = answers::list(bytes).len();
+            *size = answers::list(bytes).len();
         }
         answer
     }
@@ -428,7 +360,7 @@ mod tests {
 
     #[test]
     fn every_fault_is_found_by_its_part() {
-        for (fault, name) in FAULTS {
+        for &(fault, name) in FAULTS {
             let part = part(name).expect("a part");
             let report = part.run(&Faulty(fault), 1);
             let mismatch = report.mismatch;

@@ -1,8 +1,8 @@
-//! The seven functions that the comparison asks.
+//! The eight functions that the comparison asks.
 
-/// Each answers 0 or the refusal's number. A refusal leaves every lent slice as
-/// it was; otherwise the answer stands in the first words of the last slice and
-/// the old content beyond.
+/// Each answers 0 or the refusal's number. A refusal leaves every lent slice and
+/// every `size` as it was; otherwise the answer stands in the first words of the
+/// last slice and the old content beyond, and `size` is the answer's length.
 pub trait Library {
     /// Four verdicts of a record.
     fn judge(&self, words: &[u32], verdicts: &mut [u32]) -> u32;
@@ -22,6 +22,9 @@ pub trait Library {
     /// The sample count and a row for each sample.
     fn batch(&self, words: &[u32], answer: &mut [u32]) -> u32;
 
-    /// The listing program's text; its length is told through `length`.
-    fn list(&self, bytes: &[u8], text: &mut [u8], length: &mut usize) -> u32;
+    /// Two batches as one, in a batch's own layout.
+    fn join(&self, first: &[u32], second: &[u32], joined: &mut [u32], size: &mut usize) -> u32;
+
+    /// The listing program's text.
+    fn list(&self, bytes: &[u8], text: &mut [u8], size: &mut usize) -> u32;
 }

@@ -1,5 +1,5 @@
 //! The proved library against the other implementation of document 01, with
-//! requests (i) and (ii) of document 02.
+//! requests (i) to (iii) of document 02.
 
 mod answers;
 mod batches;
@@ -12,6 +12,7 @@ mod charts;
 #[cfg(feature = "stand-in")]
 mod faults;
 mod floats;
+mod joins;
 mod library;
 mod numbers;
 mod offers;
@@ -39,7 +40,7 @@ use std::time::{SystemTime, UNIX_EPOCH};
 const USAGE: &str = "\
 usage: differential [--parts NAME,NAME,..] [SEED]
        differential --faults [SEED]   (in the build with the feature stand-in)
-parts: records, readings, offers, charts, batches, validation";
+parts: records, readings, offers, charts, batches, joins, validation";
 
 /// What the command line asks for.
 struct Request {
@@ -130,7 +131,7 @@ fn print_mismatch(mismatch: &Mismatch) {
 #[cfg(feature = "stand-in")]
 fn find_faults(seed: u32) -> bool {
     let mut missed = Vec::new();
-    for (fault, name) in faults::FAULTS {
+    for &(fault, name) in faults::FAULTS {
         let report = part(name).map(|part| part.run(&faults::Faulty(fault), seed));
         let Some(report) = report else { return false };
         println!("{fault:?}\n{}", line(name, &report));

@@ -1,7 +1,8 @@
 //! The numbers that draws and comparisons go by. Where words stand is the other
 //! implementation's to say, as its bottles and batches are what is drawn; how
 //! far values reach is said here once more, by document 01 and by document 02:
-//! request (i) for amounts and chart values, request (ii) for sample numbers.
+//! request (i) for amounts and chart values, request (ii) for sample numbers,
+//! request (iii) for joins.
 
 // Some of these are for the faults or for tests alone.
 #[allow(unused_imports)]
@@ -9,7 +10,7 @@ pub use reference::numbers::{
     answer_words, bits_of, mark_of, ALKALINITY, AMMONIUM, BALANCE_CHECK, BITS, BULK, CALCIUM,
     CHART_ELEMENT, CHART_HEAD, CHART_LATER, CHART_SETUP, CHECKS, CHLORIDE, CONDUCTIVITY,
     CONDUCTIVITY_CHECK, CONDUCTIVITY_TENTH, COUNT_WORDS, FIRST_READING, IONS, KIND,
-    LEAST_LIMIT_BITS, MAGNESIUM, MOST_BITS, MOST_BYTES, MOST_SAMPLES, NITRATE, NITROGEN_CHECK,
+    LEAST_LIMIT_BITS, MAGNESIUM, MOST_BATCH, MOST_BITS, MOST_BYTES, NITRATE, NITROGEN_CHECK,
     NUMBER_HIGH, NUMBER_LOW, ORGANIC_CARBON, PH, POTASSIUM, RATIO_CHECK, READINGS, READINGS_END,
     READING_WORDS, RECORD_WORDS, ROW_FIELDS, ROW_FLAG, ROW_NUMBER_HIGH, ROW_NUMBER_LOW, ROW_WORDS,
     RUNOFF, SODIUM, SOIL_WATER, SULPHATE, TOTAL_NITROGEN, WET_ONLY, WORD_BYTES,
@@ -66,9 +67,18 @@ pub const MOST_VALUE: u32 = 2_000_000;
 /// "charts (0 to 10: element 1 to 10 in reading order"
 pub const MOST_CHARTS: usize = 10;
 pub const MOST_ELEMENT: u32 = 10;
+/// "then samples (0 to 400 records)"
+pub const MOST_SAMPLES: u32 = 400;
 /// Where the charts' count stands in a batch, and the first chart.
 pub const CHART_COUNT: usize = 0;
 pub const FIRST_CHART: usize = CHART_COUNT + COUNT_WORDS;
+
+/// "14 setup values differ; 15 joined counts exceed 01's ranges": for the
+/// faults and for tests alone.
+#[cfg(any(test, feature = "stand-in"))]
+pub const SETUP_DIFFERS: u32 = 14;
+#[cfg(any(test, feature = "stand-in"))]
+pub const JOINED_COUNT: u32 = 15;
 
 /// A docket's words in the C interface: state, count, last record.
 pub const DOCKET_STATE: usize = 0;
@@ -88,8 +98,8 @@ pub const MARGIN: usize = RECORD_WORDS + ROW_WORDS + 1;
 #[cfg(test)]
 mod tests {
     use super::*;
-    use reference::numbers;
     use reference::readings::Reading;
+    use reference::{numbers, refusals};
 
     /// A limit that was changed in one place alone.
     #[test]
@@ -109,6 +119,9 @@ mod tests {
             (LEAST_SETUP as u32, numbers::LEAST_SETUP as u32),
             (MOST_SETUP as u32, numbers::MOST_SETUP as u32),
             (MOST_LATER as u32, numbers::MOST_LATER as u32),
+            (MOST_SAMPLES, numbers::MOST_SAMPLES),
+            (SETUP_DIFFERS, refusals::SETUP_DIFFERS),
+            (JOINED_COUNT, refusals::JOINED_COUNT),
         ] {
             assert_eq!(here, there);
         }
@@ -149,7 +162,7 @@ mod tests {
         assert_eq!((RECORD_WORDS, DOCKET_WORDS), (26, 2 + 26));
         assert_eq!((ROW_WORDS, ROW_FIELDS), (7, 6));
         assert_eq!([0, 1, 400].map(answer_words), [1, 8, 2_801]);
-        assert_eq!(MOST_BYTES, 46_848);
+        assert_eq!((MOST_BYTES, WORD_BYTES * MOST_BATCH), (46_848, 46_848));
         // The number's digits, a space and a digit for each other field, and
         // the line's end.
         let longest_line = MOST_DIGITS as usize + 2 * (ROW_FIELDS - 1) + 1;

@@ -1,8 +1,8 @@
-//! The six parts, and a part's run from a seed.
+//! The seven parts, and a part's run from a seed.
 
 use crate::case::{Mismatch, Run};
 use crate::library::Library;
-use crate::{batches, charts, offers, readings, records, validation};
+use crate::{batches, charts, joins, offers, readings, records, validation};
 use reference::cases::generator::Generator;
 use std::time::{Duration, Instant};
 
@@ -22,12 +22,13 @@ const fn named(name: &'static str, run: fn(&mut Run) -> Result<(), Mismatch>) ->
     Part { name, run }
 }
 
-pub const PARTS: [Part; 6] = [
+pub const PARTS: [Part; 7] = [
     named("records", records::run),
     named("readings", readings::run),
     named("offers", offers::run),
     named("charts", charts::run),
     named("batches", batches::run),
+    named("joins", joins::run),
     named("validation", validation::run),
 ];
 

@@ -1,4 +1,4 @@
-//! The library's stand-in: the other implementation behind the same seven
+//! The library's stand-in: the other implementation behind the same eight
 //! functions, so that the comparison can be tried without the library.
 
 use crate::answers;
@@ -10,6 +10,15 @@ pub struct StandIn;
 
 /// Writes an answer into a lent slice, or leaves that as it is.
 pub fn write<T: Copy>(answer: Result<impl AsRef<[T]>, Refusal>, lent: &mut [T]) -> u32 {
+    write_telling(answer, lent, &mut 0)
+}
+
+/// Writes an answer and tells its length, or leaves both as they are.
+pub fn write_telling<T: Copy>(
+    answer: Result<impl AsRef<[T]>, Refusal>,
+    lent: &mut [T],
+    size: &mut usize,
+) -> u32 {
     let answer = match answer {
         Ok(answer) => answer,
         Err(refusal) => return refusal,
@@ -19,16 +28,8 @@ pub fn write<T: Copy>(answer: Result<impl AsRef<[T]>, Refusal>, lent: &mut [T]) 
         return OUTPUT;
     };
     place.copy_from_slice(answer);
+    *size = answer.len();
     0
-}
-
-/// Writes a text and tells its length, or leaves both as they are.
-pub fn write_text(listed: &[u8], text: &mut [u8], length: &mut usize) -> u32 {
-    let refusal = write(Ok(listed), text);
-    if refusal == 0 {
-        *length = listed.len();
-    }
-    refusal
 }
 
 impl Library for StandIn {
@@ -56,7 +57,11 @@ impl Library for StandIn {
         write(answers::batch(words), answer)
     }
 
-    fn list(&self, bytes: &[u8], text: &mut [u8], length: &mut usize) -> u32 {
-        write_text(&answers::list(bytes), text, length)
+    fn join(&self, first: &[u32], second: &[u32], joined: &mut [u32], size: &mut usize) -> u32 {
+        write_telling(answers::join(first, second), joined, size)
+    }
+
+    fn list(&self, bytes: &[u8], text: &mut [u8], size: &mut usize) -> u32 {
+        write_telling(Ok(answers::list(bytes)), text, size)
     }
 }

@@ -1,14 +1,14 @@
 //! "A batch": a section of charts, then a section of samples.
 
-use crate::charts::{last_signal, test_counts, test_values};
 use crate::checks::{verdicts, Verdict};
 use crate::numbers::{
     reading_of, CHART_ELEMENT, CHART_HEAD, CHART_LATER, CHART_SETUP, ELEMENTS, MOST_CHARTS,
     MOST_SAMPLES, RECORD_WORDS, ROW_FLAG, ROW_NUMBER_HIGH, ROW_NUMBER_LOW, ROW_VERDICTS, ROW_WORDS,
 };
 use crate::record::Record;
-use crate::refusals::{require, Refusal, BATCH_LENGTH, CHART, COUNT, OUTPUT};
+use crate::refusals::{require, Refusal, BATCH_LENGTH, CHART, COUNT};
 use crate::sample_number::parts_of;
+use crate::{charts, lent};
 
 /// "A batch is read from the front, each part whole (else 8) before its tests."
 struct Reader<'a> {
@@ -39,11 +39,19 @@ impl<'a> Reader<'a> {
     }
 }
 
-/// What a sample's last word needs of a chart.
-struct Chart {
-    element: u32,
-    /// A "nonzero signal at its last later value".
-    signals: bool,
+/// A chart that its own tests let pass.
+#[derive(Clone, Debug, PartialEq, Eq)]
+pub struct Chart {
+    pub element: u32,
+    pub setup: Vec<u32>,
+    pub later: Vec<u32>,
+}
+
+/// A batch that its own tests let pass.
+#[derive(Clone, Debug, PartialEq, Eq)]
+pub struct Batch {
+    pub charts: Vec<Chart>,
+    pub samples: Vec<Record>,
 }
 
 /// "a chart's first three words, element 10, then counts 9; its values 10"
@@ -53,12 +61,15 @@ fn read_chart(reader: &mut Reader, earlier: &[Chart]) -> Result<Chart, Refusal> 
     let (setup_count, later_count) = (head[CHART_SETUP] as usize, head[CHART_LATER] as usize);
     require(ELEMENTS.contains(&element), CHART)?;
     require(earlier.iter().all(|chart| chart.element != element), CHART)?;
-    test_counts(setup_count, later_count)?;
+    charts::test_counts(setup_count, later_count)?;
     let values = reader.part(setup_count + later_count)?;
-    test_values(values)?;
+    charts::test_values(values)?;
     let (setup, later) = values.split_at(setup_count);
-    let signals = last_signal(setup, later)? != 0;
-    Ok(Chart { element, signals })
+    Ok(Chart {
+        element,
+        setup: setup.to_vec(),
+        later: later.to_vec(),
+    })
 }
 
 fn read_charts(reader: &mut Reader) -> Result<Vec<Chart>, Refusal> {
@@ -81,43 +92,62 @@ fn read_samples(reader: &mut Reader) -> Result<Vec<Record>, Refusal> {
     Ok(samples)
 }
 
+/// A batch's own tests, "read from the front", and what it has.
+pub fn read(words: &[u32]) -> Result<Batch, Refusal> {
+    let mut reader = Reader { rest: words };
+    let charts = read_charts(&mut reader)?;
+    let samples = read_samples(&mut reader)?;
+    reader.end()?;
+    Ok(Batch { charts, samples })
+}
+
+/// A batch's own tests alone.
+pub fn test(words: &[u32]) -> Result<(), Refusal> {
+    read(words).map(|_| ())
+}
+
+/// The elements of the charts with "a nonzero signal at its last later value".
+fn signalled(charts: &[Chart]) -> Result<Vec<u32>, Refusal> {
+    let mut elements = Vec::new();
+    for chart in charts {
+        if charts::last_signal(&chart.setup, &chart.later)? != 0 {
+            elements.push(chart.element);
+        }
+    }
+    Ok(elements)
+}
+
 /// "1 if some chart whose element isn't missing in the sample has a nonzero
 /// signal at its last later value, else 0."
-fn flag(charts: &[Chart], sample: &Record) -> u32 {
-    let concerns = |chart: &Chart| !sample.readings[reading_of(chart.element)].is_missing();
-    let flagged = charts.iter().any(|chart| chart.signals && concerns(chart));
-    u32::from(flagged)
+fn flag(signalled: &[u32], sample: &Record) -> u32 {
+    let concerns = |&element: &u32| !sample.readings[reading_of(element)].is_missing();
+    u32::from(signalled.iter().any(concerns))
 }
 
 /// "Output rows have seven words, high and low first" (document 02 (ii)), then
 /// "four verdicts in the order above, and" the flag.
-fn row(charts: &[Chart], sample: &Record) -> [u32; ROW_WORDS] {
+fn row(signalled: &[u32], sample: &Record) -> [u32; ROW_WORDS] {
     let mut row = [0; ROW_WORDS];
     (row[ROW_NUMBER_HIGH], row[ROW_NUMBER_LOW]) = parts_of(sample.number);
     row[ROW_VERDICTS..ROW_FLAG].copy_from_slice(&verdicts(sample).map(Verdict::number));
-    row[ROW_FLAG] = flag(charts, sample);
+    row[ROW_FLAG] = flag(signalled, sample);
     row
 }
 
 /// The answer to a batch: the sample count and the rows.
-pub fn answer(batch: &[u32]) -> Result<Vec<u32>, Refusal> {
-    let mut reader = Reader { rest: batch };
-    let charts = read_charts(&mut reader)?;
-    let samples = read_samples(&mut reader)?;
-    reader.end()?;
-    let mut words = vec![samples.len() as u32];
-    for sample in &samples {
-        words.extend(row(&charts, sample));
+pub fn answer(words: &[u32]) -> Result<Vec<u32>, Refusal> {
+    let batch = read(words)?;
+    let signalled = signalled(&batch.charts)?;
+    let mut answer = vec![batch.samples.len() as u32];
+    for sample in &batch.samples {
+        answer.extend(row(&signalled, sample));
     }
-    Ok(words)
+    Ok(answer)
 }
 
 /// The same, into lent words: "leftovers 8; last 13."
-pub fn judge(batch: &[u32], output: &mut [u32]) -> Result<usize, Refusal> {
-    let answer = answer(batch)?;
-    let place = output.get_mut(..answer.len()).ok_or(OUTPUT)?;
-    place.copy_from_slice(&answer);
-    Ok(answer.len())
+pub fn judge(words: &[u32], output: &mut [u32]) -> Result<usize, Refusal> {
+    lent::write(&answer(words)?, output)
 }
 
 #[cfg(test)]
@@ -174,6 +204,39 @@ mod tests {
             assert_eq!(answer(&whole[..length]), Err(8));
         }
         assert_eq!(answer(&[whole, vec![0]].concat()), Err(8));
+    }
+
+    #[test]
+    fn a_batch_passes_its_tests_exactly_when_it_has_an_answer() {
+        let whole = small();
+        assert_eq!(test(&whole), Ok(()));
+        for place in 0..whole.len() {
+            for value in [0, 1, MOST_VALUE + 1, u32::MAX] {
+                let mut words = whole.clone();
+                words[place] = value;
+                assert_eq!(test(&words), answer(&words).map(|_| ()));
+                assert_eq!(test(&words[..place]), Err(8));
+            }
+        }
+    }
+
+    #[test]
+    fn a_batch_that_is_read_has_its_charts_and_samples() {
+        let Ok(batch) = read(&small()) else {
+            panic!("refused");
+        };
+        let charts: Vec<(u32, &[u32], &[u32])> = batch
+            .charts
+            .iter()
+            .map(|chart| (chart.element, &chart.setup[..], &chart.later[..]))
+            .collect();
+        let (setup, later) = (flat(), [1_000, 2_000]);
+        assert_eq!(charts, [(8, &setup[..], &later[..]), (2, &setup, &[])]);
+        let [first, second] = &batch.samples[..] else {
+            panic!("{} samples", batch.samples.len());
+        };
+        assert_eq!(first.words, Bottle::printed().words());
+        assert_eq!(second.words, Bottle::printed().missing(CHLORIDE).words());
     }
 
     #[test]

@@ -1,5 +1,5 @@
 //! The water analysis judge a second time, written from documents 01 and 02 (i)
-//! and (ii) and the settled readings of their open points alone.
+//! to (iii) and the settled readings of their open points alone.
 //!
 //! The modules follow the sections of document 01. Every algorithm is the most
 //! literal one: whole numbers and exact fractions, nothing tabulated beyond
@@ -13,6 +13,7 @@ pub mod checks;
 pub mod docket;
 pub mod hydrogen;
 pub mod ions;
+pub mod join;
 pub mod listing;
 pub mod numbers;
 pub mod readings;
@@ -21,7 +22,9 @@ pub mod refusals;
 pub mod sample_number;
 
 pub mod cases;
+pub mod file;
 pub mod follow;
+pub mod lent;
 pub mod replay;
 pub mod store;
 pub mod words;

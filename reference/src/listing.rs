@@ -1,20 +1,13 @@
 //! The listing program: bytes in, text out.
 
 use crate::batch::answer;
-use crate::numbers::{
-    COUNT_WORDS, MOST_BYTES, ROW_NUMBER_HIGH, ROW_NUMBER_LOW, ROW_VERDICTS, ROW_WORDS, WORD_BYTES,
-};
-use crate::refusals::{Refusal, BATCH_LENGTH, OUTPUT};
+use crate::numbers::{COUNT_WORDS, ROW_NUMBER_HIGH, ROW_NUMBER_LOW, ROW_VERDICTS, ROW_WORDS};
+use crate::refusals::{refused_line, Refusal};
 use crate::sample_number::of_parts;
-use crate::words::whole_words;
+use crate::{file, lent};
 
-/// "Bytes not a multiple of 4, or over" their limit, "give 8 before any other
-/// test", and the limit "becomes 46,848" (document 02 (ii)).
 fn answer_to_bytes(bytes: &[u8]) -> Result<Vec<u32>, Refusal> {
-    if bytes.len() % WORD_BYTES != 0 || bytes.len() > MOST_BYTES {
-        return Err(BATCH_LENGTH);
-    }
-    answer(&whole_words(bytes))
+    answer(&file::words(bytes)?)
 }
 
 /// "reads a batch as little-endian words from standard input and prints these,
@@ -22,7 +15,7 @@ fn answer_to_bytes(bytes: &[u8]) -> Result<Vec<u32>, Refusal> {
 /// `refused N`." Every line ends with a newline.
 pub fn text(bytes: &[u8]) -> String {
     match answer_to_bytes(bytes) {
-        Err(refusal) => format!("refused {refusal}\n"),
+        Err(refusal) => refused_line(refusal),
         Ok(words) => lines(&words),
     }
 }
@@ -52,10 +45,7 @@ fn line(fields: &[impl ToString]) -> String {
 /// The text, into lent bytes. A refused batch is an answer, too; only a lent
 /// text shorter than the answer is refused.
 pub fn list(bytes: &[u8], lent: &mut [u8]) -> Result<usize, Refusal> {
-    let text = text(bytes);
-    let place = lent.get_mut(..text.len()).ok_or(OUTPUT)?;
-    place.copy_from_slice(text.as_bytes());
-    Ok(text.len())
+    lent::write(text(bytes).as_bytes(), lent)
 }
 
 #[cfg(test)]
@@ -66,6 +56,7 @@ mod tests {
     use crate::cases::sample_numbers::{edge_parts, mixed};
     use crate::numbers::{
         MOST_BATCH, MOST_CHARTS, MOST_LINE, MOST_NUMBER, MOST_SAMPLES, MOST_TEXT, ROW_FIELDS,
+        WORD_BYTES,
     };
     use crate::words::to_bytes;
 

@@ -1,13 +1,16 @@
 //! `reference list`, `follow` and `replay` read standard input and print;
+//! `reference join FIRST SECOND` reads two files and prints;
 //! `reference store DIR` writes the stored inputs and outputs, and
 //! `reference store --check DIR` compares them.
 
-use reference::{follow, listing, replay, store};
+use reference::{follow, join, listing, replay, store};
+use std::fs;
 use std::io::{self, Read, Write};
 use std::path::Path;
 use std::process::ExitCode;
 
-const USAGE: &str = "usage: reference list | follow | replay | store [--check] DIR";
+const USAGE: &str =
+    "usage: reference list | follow | replay | join FIRST SECOND | store [--check] DIR";
 
 fn main() -> ExitCode {
     let arguments: Vec<String> = std::env::args().skip(1).collect();
@@ -16,6 +19,7 @@ fn main() -> ExitCode {
         ["list"] => pass(listing::text),
         ["follow"] => pass(follow::text),
         ["replay"] => pass(replay::text),
+        ["join", first, second] => join_files(Path::new(first), Path::new(second)),
         ["store", "--check", directory] => return check(Path::new(directory)),
         ["store", directory] => store::write(Path::new(directory)),
         _ => Err(io::Error::other(USAGE)),
@@ -34,6 +38,12 @@ fn pass(program: fn(&[u8]) -> String) -> io::Result<()> {
     let mut input = Vec::new();
     io::stdin().lock().read_to_end(&mut input)?;
     io::stdout().lock().write_all(program(&input).as_bytes())
+}
+
+/// Two files joined, to standard output.
+fn join_files(first: &Path, second: &Path) -> io::Result<()> {
+    let output = join::output(&fs::read(first)?, &fs::read(second)?);
+    io::stdout().lock().write_all(&output)
 }
 
 /// Says which stored files differ, if any.

@@ -1,7 +1,7 @@
 //! The numbers of documents 01 and 02 (i) and (ii) in one place: where words
-//! stand, how many there are and how far values reach. What follows from others
-//! is worked out from them. A comment quotes document 01 unless it names 02 (i)
-//! or 02 (ii).
+//! stand, how many there are and how far values reach; 02 (iii) brings no new
+//! ones. What follows from others is worked out from them. A comment quotes
+//! document 01 unless it names 02 (i) or 02 (ii).
 
 use std::ops::RangeInclusive;
 
@@ -199,10 +199,14 @@ pub const REPLAY_WORDS: usize = 1_024;
 /// The most samples that a case has words for beside two words of its own, as a
 /// listing has, and a batch's two counts.
 pub const REPLAY_SAMPLES: usize = (REPLAY_WORDS - 2 - 2 * COUNT_WORDS) / RECORD_WORDS;
-/// The most words, and the most bytes of text, that a case may lend: enough for
-/// the answer to as many samples as it has words for.
+/// The most words, and the most bytes of text or of a file, that a case may lend:
+/// enough for the answer to as many samples as it has words for, but not for
+/// every joined batch.
 pub const REPLAY_ROOM: u32 = 320;
 pub const REPLAY_TEXT: u32 = 1_024;
+/// The most bytes that the two files of a case may have together: those of as
+/// many words as a case may have.
+pub const REPLAY_BYTES: usize = WORD_BYTES * REPLAY_WORDS;
 
 #[cfg(test)]
 mod tests {
@@ -231,7 +235,7 @@ mod tests {
 
     #[test]
     fn a_case_lends_enough_for_its_samples() {
-        assert_eq!(REPLAY_SAMPLES, 39);
+        assert_eq!((REPLAY_SAMPLES, REPLAY_BYTES), (39, 4_096));
         assert_eq!(answer_words(REPLAY_SAMPLES), 274);
         assert!(answer_words(REPLAY_SAMPLES) <= REPLAY_ROOM as usize);
         assert!(text_bytes(REPLAY_SAMPLES) <= REPLAY_TEXT as usize);

@@ -1,4 +1,5 @@
-//! "Refusals that come from the input" and "Refusals that come from the state".
+//! "Refusals that come from the input" and "Refusals that come from the state",
+//! and the two "Checks" of document 02 (iii).
 
 /// "A refusal returns its number, nothing else changes."
 pub type Refusal = u32;
@@ -32,8 +33,14 @@ pub const OTHER_SAMPLE: Refusal = 12;
 /// "13 output shorter than the answer."
 pub const OUTPUT: Refusal = 13;
 
-/// All thirteen in the order in which document 01 names them.
-pub const ALL: [Refusal; 13] = [
+/// "14 setup values differ" (document 02 (iii)): also where their number or their
+/// order does.
+pub const SETUP_DIFFERS: Refusal = 14;
+/// "15 joined counts exceed 01's ranges" (document 02 (iii)).
+pub const JOINED_COUNT: Refusal = 15;
+
+/// All fifteen in the order in which documents 01 and 02 (iii) name them.
+pub const ALL: [Refusal; 15] = [
     RECORD_LENGTH,
     SAMPLE_NUMBER,
     KIND,
@@ -47,6 +54,8 @@ pub const ALL: [Refusal; 13] = [
     DOCKET,
     OTHER_SAMPLE,
     OUTPUT,
+    SETUP_DIFFERS,
+    JOINED_COUNT,
 ];
 
 /// Refuses with `refusal` unless the condition is met.
@@ -56,4 +65,9 @@ pub fn require(condition: bool, refusal: Refusal) -> Result<(), Refusal> {
     } else {
         Err(refusal)
     }
+}
+
+/// What a program prints in place of an answer: "or `refused N`", as a line.
+pub fn refused_line(refusal: Refusal) -> String {
+    format!("refused {refusal}\n")
 }

@@ -9,6 +9,8 @@ use crate::refusals::{self, Refusal};
 use crate::words::whole_words;
 use crate::{batch, charts, checks, listing};
 
+mod joins;
+
 /// The line of a case, or nothing where the case is malformed.
 type Line = Option<String>;
 
@@ -63,6 +65,9 @@ fn answer(call: u32, words: &[u32]) -> Line {
         14 => presence(words),
         15 => sample(words),
         16 => Some(followed(words)),
+        17 => joins::joined(words),
+        18 => Some(joins::tested(words)),
+        19 => joins::joined_files(words),
         _ => None,
     }
 }
@@ -189,6 +194,11 @@ fn lent_words(room: u32) -> Option<Vec<u32>> {
     (room <= REPLAY_ROOM).then(|| (0..room).map(old).collect())
 }
 
+/// The lent bytes of a call before it.
+fn lent_bytes(room: u32) -> Option<Vec<u8>> {
+    (room <= REPLAY_TEXT).then(|| vec![126; room as usize])
+}
+
 /// The line of a call with lent output: its answer, then what was lent.
 fn lent_line<T: std::fmt::Display>(
     name: &str,
@@ -227,10 +237,7 @@ fn listed(words: &[u32]) -> Line {
     let (&[room, length], rest) = words.split_first_chunk()?;
     let bytes = crate::words::to_bytes(rest);
     let bytes = bytes.get(..length as usize)?;
-    if room > REPLAY_TEXT {
-        return None;
-    }
-    let mut lent = vec![126u8; room as usize];
+    let mut lent = lent_bytes(room)?;
     let result = listing::list(bytes, &mut lent);
     Some(lent_line("listed", result, &lent))
 }
@@ -282,6 +289,7 @@ mod tests {
         assert_eq!(run(&[9, 0, 9, 1, 0]), "offers\noffers 1 0 0\n");
         assert_eq!(run(&[9, 3, 7, 1, 2]), "offers 1 0 0\n");
         assert_eq!(run(&[16, 0]), "followed 0 0\n");
+        assert_eq!(run(&[6, 1, 14, 6, 1, 15]), "number 14\nnumber 15\n");
     }
 
     /// The line of one case: the call, what it is lent, and a batch or records.
@@ -330,13 +338,13 @@ mod tests {
     fn it_stops_at_a_malformed_case() {
         for malformed in [
             vec![0, 0],
-            vec![17, 0],
+            vec![20, 0],
             vec![7, REPLAY_WORDS as u32 + 1],
             vec![7, 2, 0],
             vec![7],
             vec![1, 0],
             vec![6, 1, 0],
-            vec![6, 1, 14],
+            vec![6, 1, 16],
             vec![8, 0],
             vec![8, 1, 1],
             vec![10, 2, 1, 0],
@@ -348,7 +356,7 @@ mod tests {
             let words = [vec![6, 1, 1], malformed].concat();
             assert_eq!(run(&words), "number 1\nmalformed\n", "{words:?}");
         }
-        assert_eq!(run(&[17, 0, 6, 1, 1]), "malformed\n");
+        assert_eq!(run(&[20, 0, 6, 1, 1]), "malformed\n");
         assert_eq!(text(&[0]), "malformed\n");
     }
 }

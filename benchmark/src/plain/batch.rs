@@ -22,24 +22,80 @@ fn count(words: &[u32], most: u32) -> Result<(u32, &[u32]), Refusal> {
     Ok((first[0], rest))
 }
 
+/// A chart whose element and counts passed their tests.
+#[derive(Clone, Copy)]
+pub struct Chart<'a> {
+    pub element: usize,
+    pub setup: &'a [u32],
+    pub later: &'a [u32],
+}
+
+/// Which elements had a chart so far.
+type Seen = [bool; READINGS + 1];
+
+/// The next chart, and the words after it.
+fn next_chart<'a>(words: &'a [u32], seen: &mut Seen) -> Result<(Chart<'a>, &'a [u32]), Refusal> {
+    let (head, values) = split(words, CHART_HEAD)?;
+    let element = head[CHART_ELEMENT] as usize;
+    let (setup, later) = (head[CHART_SETUP] as usize, head[CHART_LATER] as usize);
+    if !(1..=READINGS).contains(&element) || seen[element] {
+        return Err(10);
+    }
+    seen[element] = true;
+    if !chart::counts_fit(setup, later) {
+        return Err(9);
+    }
+    let (values, after) = split(values, setup + later)?;
+    let (setup, later) = values.split_at(setup);
+    let chart = Chart {
+        element,
+        setup,
+        later,
+    };
+    Ok((chart, after))
+}
+
+/// A batch that passed its tests.
+pub struct Batch<'a> {
+    pub charts: Vec<Chart<'a>>,
+    /// The words of all samples.
+    pub samples: &'a [u32],
+}
+
+impl Batch<'_> {
+    /// The batch's own tests; nothing is judged.
+    pub fn read(words: &[u32]) -> Result<Batch<'_>, Refusal> {
+        let (n, mut rest) = count(words, MOST_CHARTS)?;
+        let mut seen = [false; READINGS + 1];
+        let mut charts = Vec::with_capacity(n as usize);
+        for _ in 0..n {
+            let (chart, after) = next_chart(rest, &mut seen)?;
+            chart::tested(chart.setup, chart.later)?;
+            charts.push(chart);
+            rest = after;
+        }
+        let (n, samples) = count(rest, MOST_SAMPLES as u32)?;
+        let mut rest = samples;
+        for _ in 0..n {
+            let (words, after) = split(rest, RECORD_WORDS)?;
+            Record::read(words)?;
+            rest = after;
+        }
+        if !rest.is_empty() {
+            return Err(8);
+        }
+        Ok(Batch { charts, samples })
+    }
+}
+
 pub fn judge_batch(words: &[u32], out: &mut [u32], floors: &Floors) -> Result<usize, Refusal> {
     let (charts, mut rest) = count(words, MOST_CHARTS)?;
     let mut seen = [false; READINGS + 1];
     let mut signalled = Vec::new();
     for _ in 0..charts {
-        let (head, values) = split(rest, CHART_HEAD)?;
-        let element = head[CHART_ELEMENT] as usize;
-        let (setup, later) = (head[CHART_SETUP] as usize, head[CHART_LATER] as usize);
-        if !(1..=READINGS).contains(&element) || seen[element] {
-            return Err(10);
-        }
-        seen[element] = true;
-        if !chart::counts_fit(setup, later) {
-            return Err(9);
-        }
-        let (values, after) = split(values, setup + later)?;
-        if chart::last_signal(&values[..setup], &values[setup..])? != 0 {
-            signalled.push(element);
+        let (chart, after) = next_chart(rest, &mut seen)?;
+        if chart::last_signal(chart.setup, chart.later)? != 0 {
+            signalled.push(chart.element);
         }
         rest = after;
     }

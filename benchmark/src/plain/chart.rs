@@ -70,7 +70,7 @@ pub fn counts_fit(setup: usize, later: usize) -> bool {
     (LEAST_SETUP..=MOST_SETUP).contains(&setup) && later <= MOST_LATER
 }
 
-fn tested(setup: &[u32], later: &[u32]) -> Result<(), Refusal> {
+pub fn tested(setup: &[u32], later: &[u32]) -> Result<(), Refusal> {
     if !counts_fit(setup.len(), later.len()) {
         return Err(9);
     }

@@ -5,6 +5,7 @@ pub mod batch;
 pub mod chart;
 pub mod checks;
 pub mod docket;
+pub mod join;
 pub mod record;
 
 use crate::numbers::FLOORS;

@@ -1,5 +1,5 @@
-// The judge, the docket, control charts and batches for programs in C, which see a slice as a pointer and a length
-// (include/peltquarry.h). Each call returns 0 where it did what was asked, else the number of document 01's refusal, and then
+// The judge, the docket, control charts, batches and their joining for programs in C, which see a slice as a pointer and a length
+// (include/peltquarry.h). Each call returns 0 where it did what was asked, else the number of the documents' refusal, and then
 // the words lent to it are as they were. An answer goes into the first words of the lent output.
 mod codes;
 mod docket_words;
@@ -19,6 +19,7 @@ ghost use Rattle.chart.specs.Charts.{signalsOf};
 ghost use Rattle.refusal.specs.Outcome.Outcome.{given};
 ghost use Rattle.batch.specs.Rows.{batchAnswer};
 ghost use Rattle.listing.specs.Listing.{listText};
+ghost use Rattle.joining.specs.Joins.{joinedOf};
 ghost use Rattle.analyser.specs.Codes.{codeOf, sizeAfter};
 ghost use Rattle.analyser.specs.Analyses.{judgedWords, analysedWords};
 ghost use Rattle.analyser.specs.LentDockets.{FreshLent, offeredWords, LentLaws};
@@ -98,6 +99,21 @@ pub extern "C" fn peltquarry_batch(words: &[u32], answer: &mut [u32]) -> u32
     ensures lent { λ _. ⌜ now (answer .exit) ≡ lentAfter (fitting (length (now (answer .entry))) (batchAnswer (now (words .entry)))) (now (answer .entry)) ⌝ }
 {
     codes::of_written(batch::judge_batch(words, answer))
+}
+
+// Joins two batches: the joined batch, and how many words it has into `size`.
+#[no_mangle]
+pub extern "C" fn peltquarry_join(
+    first: &[u32],
+    second: &[u32],
+    joined: &mut [u32],
+    size: &mut usize,
+) -> u32
+    ensures code { λ r. ⌜ r ≡ codeOf (fitting (length (now (joined .entry))) (joinedOf (now (first .entry)) (now (second .entry)))) ⌝ }
+    ensures lent { λ _. ⌜ now (joined .exit) ≡ lentAfter (fitting (length (now (joined .entry))) (joinedOf (now (first .entry)) (now (second .entry)))) (now (joined .entry)) ⌝ }
+    ensures size { λ _. ⌜ now (size .exit) ≡ sizeAfter (fitting (length (now (joined .entry))) (joinedOf (now (first .entry)) (now (second .entry)))) (now (size .entry)) ⌝ }
+{
+    codes::with_size(joining::join(first, second, joined), size)
 }
 
 // The text of the listing of a batch lent as bytes; its length into `size`.

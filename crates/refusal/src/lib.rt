@@ -1,9 +1,9 @@
-// The refusals of document 01, each under a name, with the paper's number; and the answer of a call that writes to a lent
-// slice.
+// The refusals of document 01 and of document 02 (iii), each under a name, with the paper's number; and the answer of a call
+// that writes to a lent slice.
 ghost use mathlib.Core.Path.{_≡_};
 ghost use Rattle.refusal.specs.Numbers.{numberOf};
 
-// Why a call refuses. 1 to 10 come from the input, 11 to 13 from the state.
+// Why a call refuses. 1 to 10 come from the input, 11 to 13 from the state, 14 and 15 from two batches that are joined.
 pub enum Refusal {
     RecordLength,
     SampleNumber,
@@ -18,6 +18,8 @@ pub enum Refusal {
     DocketClosed,
     OtherSample,
     OutputLength,
+    SetupDiffers,
+    JoinedCount,
 }
 
 impl Refusal {
@@ -39,6 +41,8 @@ impl Refusal {
             Refusal::DocketClosed => 11,
             Refusal::OtherSample => 12,
             Refusal::OutputLength => 13,
+            Refusal::SetupDiffers => 14,
+            Refusal::JoinedCount => 15,
         }
     }
 }

@@ -1,15 +1,10 @@
 // The calls of `batch` and `listing`.
 use crate::lent;
-ghost use Prim.Native.Nat.{_≤_, _*_};
-ghost use lib.ListN.{length};
+use crate::print;
+use judge::Acceptance;
 
-// The most bytes of a listing's input, and the most that are lent for its text.
+// The most bytes of a listing's input.
 const MOST_BYTES: usize = 4096;
-
-const MOST_TEXT: usize = 1024;
-
-// The old content of a lent text.
-const OLD_BYTE: u8 = 126;
 
 fn judge_batch_of(room: u32, words: &[u32]) -> bool {
     let lent = room as usize;
@@ -34,30 +29,19 @@ pub fn judge_batch(words: &[u32]) -> bool {
     judge_batch_of(words[0], &words[1..])
 }
 
-fn byte_of(word: u32, place: usize) -> u8 {
-    match place {
-        0 => (word % 256) as u8,
-        1 => (word / 256 % 256) as u8,
-        2 => (word / 65536 % 256) as u8,
-        _ => (word / 16777216) as u8,
+// A batch: whether it passes its own tests.
+pub fn test(words: &[u32]) -> bool {
+    match batch::test(words) {
+        Acceptance::Accepted => print::text(b"passed"),
+        Acceptance::Refused(why) => print::refused(why),
     }
-}
-
-// The bytes of the words, least byte first.
-fn put_bytes(words: &[u32], bytes: &mut [u8])
-    requires { ⌜ length (now bytes) ≤ 4 * length (now words) ⌝ }
-{
-    let mut i: usize = 0;
-    while i < bytes.len() {
-        bytes[i] = byte_of(words[i / 4], i % 4);
-        i += 1;
-    }
+    true
 }
 
 fn list_of(room: u32, count: u32, words: &[u32]) -> bool {
     let lent = room as usize;
     let n = count as usize;
-    if lent > MOST_TEXT {
+    if lent > lent::MOST_BYTES {
         return false;
     }
     if n > MOST_BYTES {
@@ -67,12 +51,11 @@ fn list_of(room: u32, count: u32, words: &[u32]) -> bool {
         return false;
     }
     let mut space = [0u8; MOST_BYTES];
+    words::pack(words, &mut space);
+    let mut text_space = [lent::OLD_BYTE; lent::MOST_BYTES];
     // Their starts are written out, since the check then knows their lengths.
-    let bytes = &mut space[0..n];
-    put_bytes(words, bytes);
-    let mut text_space = [OLD_BYTE; MOST_TEXT];
     let text = &mut text_space[0..lent];
-    let answer = listing::list(bytes, text);
+    let answer = listing::list(&space[0..n], text);
     lent::print_answer(b"listed ", answer);
     lent::print_bytes(text);
     true

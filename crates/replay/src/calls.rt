@@ -4,6 +4,7 @@ use crate::batches;
 use crate::control_charts;
 use crate::dockets;
 use crate::floors;
+use crate::joins;
 use crate::readings;
 use crate::records;
 use crate::refusals;
@@ -26,6 +27,9 @@ pub fn answer(call: u32, words: &[u32]) -> bool {
         14 => records::has_reading(words),
         15 => records::same_sample(words),
         16 => dockets::follow(words),
+        17 => joins::join(words),
+        18 => batches::test(words),
+        19 => joins::join_bytes(words),
         _ => false,
     }
 }

@@ -10,6 +10,11 @@ const OLD: u32 = 900000000;
 // The most words that are lent.
 pub const MOST_WORDS: usize = 320;
 
+// The old content of lent bytes, and the most that are lent.
+pub const OLD_BYTE: u8 = 126;
+
+pub const MOST_BYTES: usize = 1024;
+
 // Every word gets another old content, so that one that moved is seen.
 pub fn fill(out: &mut [u32])
     requires { ⌜ length (now out) ≤ 320 ⌝ }
@@ -43,7 +48,7 @@ fn wide(byte: u8) -> u32 {
     byte as u32
 }
 
-// The bytes of a lent text as numbers, and the end of the line.
+// Lent bytes as numbers, and the end of the line.
 pub fn print_bytes(out: &[u8]) {
     let mut i: usize = 0;
     while i < out.len() {

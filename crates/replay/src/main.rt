@@ -7,6 +7,7 @@ mod control_charts;
 mod dockets;
 mod floats;
 mod floors;
+mod joins;
 mod lent;
 mod print;
 mod readings;

@@ -2,10 +2,10 @@
 use crate::print;
 use refusal::Refusal;
 
-// How many refusals document 01 lists.
-const REFUSALS: u32 = 13;
+// How many refusals documents 01 and 02 list.
+const REFUSALS: u32 = 15;
 
-// The refusals in the order of document 01, from place 1; the last stands at every other place.
+// The refusals in the order of the documents, from place 1; the last stands at every other place.
 fn refusal_at(place: u32) -> Refusal {
     match place {
         1 => Refusal::RecordLength,
@@ -20,11 +20,13 @@ fn refusal_at(place: u32) -> Refusal {
         10 => Refusal::Chart,
         11 => Refusal::DocketClosed,
         12 => Refusal::OtherSample,
-        _ => Refusal::OutputLength,
+        13 => Refusal::OutputLength,
+        14 => Refusal::SetupDiffers,
+        _ => Refusal::JoinedCount,
     }
 }
 
-// A place in the document's list: the number of the refusal there.
+// A place in the documents' list: the number of the refusal there.
 pub fn number(words: &[u32]) -> bool {
     if words.len() != 1 {
         return false;

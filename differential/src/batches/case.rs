@@ -1,12 +1,12 @@
 //! A batch to be answered.
 
-use super::layout::Layout;
+use super::layout::{ChartParts, Layout};
 use crate::answers;
 use crate::canary::Lent;
 use crate::case::{Case, Difference};
 use crate::charts::smaller_charts;
 use crate::library::Library;
-use crate::numbers::{CHART_COUNT, CHART_ELEMENT, CHART_HEAD, CHART_SETUP, RECORD_WORDS};
+use crate::numbers::{CHART_COUNT, RECORD_WORDS};
 use crate::outcome::Outcome;
 use crate::records::{describe_record, smaller_records};
 use crate::shrink::{flatter, shorter, simpler_room, simpler_words, stretches};
@@ -53,14 +53,8 @@ impl Case for BatchCase {
 /// Batches with fewer samples, fewer charts, fewer words, simpler words.
 pub fn smaller_batches(words: &[u32]) -> impl Iterator<Item = Vec<u32>> + '_ {
     let layout = Layout::of(words);
-    let fewer_samples = layout
-        .sample_count
-        .map(|count| without_parts(words, count, &layout.samples))
-        .unwrap_or_default();
-    let fewer_charts = without_parts(words, CHART_COUNT, &layout.charts);
-    fewer_samples
-        .into_iter()
-        .chain(fewer_charts)
+    fewer_samples(words)
+        .chain(fewer_charts(words))
         .chain(flatter(words))
         .chain(simpler_charts(words, layout.charts))
         .chain(shorter(words))
@@ -68,17 +62,33 @@ pub fn smaller_batches(words: &[u32]) -> impl Iterator<Item = Vec<u32>> + '_ {
         .chain(simpler_words(words, |_| 0))
 }
 
+pub fn fewer_samples(words: &[u32]) -> impl Iterator<Item = Vec<u32>> + '_ {
+    let Layout {
+        sample_count,
+        samples,
+        ..
+    } = Layout::of(words);
+    let fewer = sample_count.map(|count| without_parts(words, count, samples));
+    fewer.into_iter().flatten()
+}
+
+pub fn fewer_charts(words: &[u32]) -> impl Iterator<Item = Vec<u32>> + '_ {
+    without_parts(words, CHART_COUNT, Layout::of(words).charts)
+}
+
 /// The words with another part in the place of one.
-fn replaced(words: &[u32], part: &Range<usize>, by: &[u32]) -> Vec<u32> {
+pub fn replaced(words: &[u32], part: &Range<usize>, by: &[u32]) -> Vec<u32> {
     [&words[..part.start], by, &words[part.end..]].concat()
 }
 
 /// One chart made simpler, its counts with it.
 fn simpler_charts(words: &[u32], charts: Vec<Range<usize>>) -> impl Iterator<Item = Vec<u32>> + '_ {
     charts.into_iter().flat_map(move |part| {
-        let (head, values) = words[part.clone()].split_at(CHART_HEAD);
-        let element = head[CHART_ELEMENT];
-        let (setup, later) = values.split_at(head[CHART_SETUP] as usize);
+        let ChartParts {
+            element,
+            setup,
+            later,
+        } = ChartParts::of(&words[part.clone()]);
         smaller_charts(setup, later)
             .map(move |(setup, later)| replaced(words, &part, &chart(element, &setup, &later)))
     })
@@ -101,14 +111,17 @@ fn simpler_samples(
 }
 
 /// The words without a stretch of parts, their count lowered by as many.
-fn without_parts(words: &[u32], count: usize, parts: &[Range<usize>]) -> Vec<Vec<u32>> {
-    let without = |(first, last): (usize, usize)| {
+fn without_parts(
+    words: &[u32],
+    count: usize,
+    parts: Vec<Range<usize>>,
+) -> impl Iterator<Item = Vec<u32>> + '_ {
+    stretches(parts.len()).map(move |(first, last)| {
         let (start, end) = (parts[first].start, parts[last - 1].end);
         let mut shorter = [&words[..start], &words[end..]].concat();
         shorter[count] -= (last - first) as u32;
         shorter
-    };
-    stretches(parts.len()).map(without).collect()
+    })
 }
 
 /// So many words are told; beyond that the seed has to do.

@@ -1,7 +1,8 @@
 //! Where the parts of a batch stand, as far as its counts can be believed.
 
 use crate::numbers::{
-    CHART_COUNT, CHART_HEAD, CHART_LATER, CHART_SETUP, COUNT_WORDS, FIRST_CHART, RECORD_WORDS,
+    CHART_COUNT, CHART_ELEMENT, CHART_HEAD, CHART_LATER, CHART_SETUP, COUNT_WORDS, FIRST_CHART,
+    RECORD_WORDS,
 };
 use std::ops::Range;
 
@@ -52,10 +53,39 @@ impl Layout {
     }
 }
 
+/// A chart's words taken apart.
+#[derive(Clone, Copy, Debug, PartialEq, Eq)]
+pub struct ChartParts<'a> {
+    pub element: u32,
+    pub setup: &'a [u32],
+    pub later: &'a [u32],
+}
+
+impl<'a> ChartParts<'a> {
+    /// Of a chart that a layout has found.
+    pub fn of(words: &'a [u32]) -> ChartParts<'a> {
+        let (head, values) = words.split_at(CHART_HEAD);
+        let (setup, later) = values.split_at(head[CHART_SETUP] as usize);
+        ChartParts {
+            element: head[CHART_ELEMENT],
+            setup,
+            later,
+        }
+    }
+
+    /// All charts of a batch that its layout finds: for the faults and for
+    /// tests.
+    #[cfg(any(test, feature = "stand-in"))]
+    pub fn all_of(words: &'a [u32]) -> Vec<ChartParts<'a>> {
+        let charts = Layout::of(words).charts.into_iter();
+        charts.map(|part| ChartParts::of(&words[part])).collect()
+    }
+}
+
 #[cfg(test)]
 mod tests {
     use super::*;
-    use reference::cases::batches::small;
+    use reference::cases::batches::{flat, small};
 
     #[test]
     fn the_parts_of_a_small_batch() {
@@ -73,6 +103,18 @@ mod tests {
         let of_charts = [first, second].map(|chart| [chart + CHART_SETUP, chart + CHART_LATER]);
         let counts = [vec![CHART_COUNT], of_charts.concat(), vec![count]];
         assert_eq!(layout.counts, counts.concat());
+    }
+
+    #[test]
+    fn the_charts_of_a_small_batch() {
+        let words = small();
+        let charts = ChartParts::all_of(&words);
+        let due = [(4, vec![1_000, 1_001]), (9, vec![1_000])];
+        let found = charts
+            .iter()
+            .map(|chart| (chart.element, chart.later.to_vec()));
+        assert_eq!(found.collect::<Vec<_>>(), due);
+        assert!(charts.iter().all(|chart| chart.setup == flat()));
     }
 
     #[test]

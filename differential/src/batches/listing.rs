@@ -6,14 +6,11 @@ use crate::canary::Lent;
 use crate::case::{Case, Difference};
 use crate::library::Library;
 use crate::numbers::{MOST_BYTES, WORD_BYTES};
-use crate::outcome::Outcome;
+use crate::outcome::{Outcome, OLD_LENGTH};
 use crate::random::Draw;
 use crate::shrink::simpler_room;
 use reference::cases::generator::Generator;
 use reference::words::{to_bytes, whole_words};
-
-/// What stands in the length before the call; no text is so long.
-const OLD_LENGTH: usize = usize::MAX / 3;
 
 pub struct ListCase {
     words: Vec<u32>,
@@ -67,18 +64,13 @@ impl Case for ListCase {
         let mut lent = Lent::of_length(self.room);
         let bytes = self.bytes();
         let text = answers::list(&bytes);
-        let due = Outcome::due(lent.content(), Ok(&text));
-        let due_length = if due.answer == 0 {
-            text.len()
-        } else {
-            OLD_LENGTH
-        };
+        let due = Outcome::due_telling(lent.content(), Ok(&text));
         let mut length = OLD_LENGTH;
         let answer = library.list(&bytes, lent.slice(), &mut length);
-        let found = Outcome::found(answer, &lent);
-        (found != due || length != due_length).then(|| Difference {
-            library: describe_text(&found, length),
-            reference: describe_text(&due, due_length),
+        let found = Outcome::found(answer, &lent).telling(length);
+        (found != due).then(|| Difference {
+            library: describe_text(&found),
+            reference: describe_text(&due),
         })
     }
 
@@ -107,20 +99,13 @@ impl Case for ListCase {
     }
 }
 
-fn describe_text(outcome: &Outcome<u8>, length: usize) -> String {
-    let answer = match outcome.answer {
-        0 => "answered".to_string(),
-        refusal => format!("refused {refusal}"),
-    };
-    let length = match length {
-        OLD_LENGTH => "unchanged".to_string(),
-        length => length.to_string(),
-    };
+fn describe_text(outcome: &Outcome<u8>) -> String {
+    let answer = outcome.describe_answer();
     let canaries = if outcome.canaries_stand {
         ""
     } else {
         ", bytes outside it changed"
     };
     let text = String::from_utf8_lossy(&outcome.after);
-    format!("{answer}, length {length}, the lent text then {text:?}{canaries}")
+    format!("{answer}, the lent text then {text:?}{canaries}")
 }

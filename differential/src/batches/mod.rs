@@ -6,6 +6,10 @@ mod layout;
 mod listing;
 mod written;
 
+pub use case::{describe_batch, fewer_charts, fewer_samples, replaced, smaller_batches, BatchCase};
+pub use damage::damage;
+pub use layout::{ChartParts, Layout};
+
 use crate::bottles::any_bottle;
 use crate::case::{Mismatch, Run};
 use crate::charts::Chart;
@@ -14,7 +18,6 @@ use crate::numbers::{
 };
 use crate::random::Draw;
 use crate::sample_numbers::{any_number, with_other_high};
-use case::BatchCase;
 use listing::ListCase;
 use reference::cases::batches::{batch, chart};
 use reference::cases::bottle::Bottle;
@@ -37,14 +40,14 @@ pub fn run(run: &mut Run) -> Result<(), Mismatch> {
     for _ in 0..GREATEST {
         let mut words = greatest(&mut run.generator);
         if run.generator.once_in(2) {
-            damage::damage(&mut run.generator, &mut words);
+            damage(&mut run.generator, &mut words);
         }
         check(run, words)?;
     }
     for _ in 0..DRAWN {
         let mut words = drawn(&mut run.generator);
         for _ in 0..run.generator.pick(&[0, 0, 1, 1, 2]) {
-            damage::damage(&mut run.generator, &mut words);
+            damage(&mut run.generator, &mut words);
         }
         check(run, words)?;
     }
@@ -81,7 +84,7 @@ fn check_text_about(run: &mut Run, bytes: &[u8]) -> Result<(), Mismatch> {
 
 /// How many words the answer to a batch has; for a refused one, how many it
 /// might have had.
-fn answer_length(words: &[u32]) -> usize {
+pub fn answer_length(words: &[u32]) -> usize {
     match crate::answers::batch(words) {
         Ok(answer) => answer.len(),
         Err(_) => answer_words(words.len() / RECORD_WORDS),
@@ -129,7 +132,7 @@ fn chart_words(generator: &mut Generator, element: u32) -> Vec<u32> {
 }
 
 /// All elements in any order.
-fn elements(generator: &mut Generator) -> Vec<u32> {
+pub fn elements(generator: &mut Generator) -> Vec<u32> {
     let mut elements: Vec<u32> = (1..=MOST_ELEMENT).collect();
     generator.shuffle(&mut elements);
     elements
@@ -163,7 +166,7 @@ mod tests {
         let mut times = [0; 11];
         for _ in 0..40_000 {
             let mut words = drawn(&mut generator);
-            damage::damage(&mut generator, &mut words);
+            damage(&mut generator, &mut words);
             let refusal = crate::answers::batch(&words).err().unwrap_or(0);
             times[refusal as usize] += 1;
         }

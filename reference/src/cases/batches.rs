@@ -153,7 +153,7 @@ fn chart_counts(cases: &mut Cases) {
 }
 
 /// Bottles that a record's tests refuse with 2 to 7.
-fn faulty_bottles() -> [Bottle; 6] {
+pub fn faulty_bottles() -> [Bottle; 6] {
     let printed = Bottle::printed();
     [
         printed.number(0),
@@ -212,7 +212,7 @@ fn competing_in_charts(cases: &mut Cases) {
 }
 
 /// A chart whose setup values are all out of their range.
-fn bad_value(element: u32) -> Vec<u32> {
+pub fn bad_value(element: u32) -> Vec<u32> {
     chart(element, &[MOST_VALUE + 1; LEAST_SETUP], &[])
 }
 

@@ -5,6 +5,7 @@ use super::batches::{batch, chart};
 use super::bottle::{plausible, Bottle};
 use super::generator::Generator;
 use super::undecided::{undecided_balance, undecided_conductivity};
+use crate::batch::Chart;
 use crate::numbers::{
     reading_of, MOST_CHARTS, MOST_LATER, MOST_NUMBER, MOST_SAMPLES, MOST_SETUP, MOST_VALUE,
     NUMBER_DIGITS, SOIL_WATER,
@@ -19,8 +20,18 @@ const SIGNALLED: [u32; 3] = [8, 3, 10];
 const CALM: u32 = 6;
 
 pub fn peltquarry_input() -> Vec<u8> {
+    let (charts, samples) = charts_and_samples();
+    let charts: Vec<Vec<u32>> = charts
+        .iter()
+        .map(|whole| chart(whole.element, &whole.setup, &whole.later))
+        .collect();
+    to_bytes(&batch(&charts, &samples))
+}
+
+/// What the batch has.
+pub fn charts_and_samples() -> (Vec<Chart>, Vec<Bottle>) {
     let mut generator = Generator::new(1_001);
-    let charts: Vec<Vec<u32>> = ELEMENTS
+    let charts: Vec<Chart> = ELEMENTS
         .into_iter()
         .map(|element| greatest_chart(&mut generator, element))
         .collect();
@@ -33,10 +44,10 @@ pub fn peltquarry_input() -> Vec<u8> {
             samples[place] = bottle.number(number_of(place as u32));
         }
     }
-    to_bytes(&batch(&charts, &samples))
+    (charts, samples)
 }
 
-fn greatest_chart(generator: &mut Generator, element: u32) -> Vec<u32> {
+fn greatest_chart(generator: &mut Generator, element: u32) -> Chart {
     let mut values = |count: usize, least: u32, spread: u32| -> Vec<u32> {
         (0..count)
             .map(|_| least + generator.below(spread))
@@ -57,7 +68,11 @@ fn greatest_chart(generator: &mut Generator, element: u32) -> Vec<u32> {
         let quiet = [9_900, 10_100, 9_850, 10_200, 9_950, 10_050, 9_980];
         later[MOST_LATER - quiet.len()..].copy_from_slice(&quiet);
     }
-    chart(element, &setup, &later)
+    Chart {
+        element,
+        setup,
+        later,
+    }
 }
 
 /// Numbers in the order of the samples, all of them as long as there may be and

@@ -1,4 +1,4 @@
-//! The stored inputs: what the three test programs are run with.
+//! The stored inputs: what the four test programs are run with.
 
 pub mod agreement;
 pub mod batches;
@@ -8,10 +8,12 @@ pub mod floats;
 pub mod generator;
 pub mod greatest_batch;
 pub mod hydrogen;
+pub mod joins;
 pub mod limits;
 pub mod listings;
 pub mod offers;
 pub mod one_bottle;
+pub mod pairs;
 pub mod questions;
 pub mod readings;
 pub mod records;
@@ -40,6 +42,20 @@ impl Cases {
         self.words.extend(words);
     }
 
+    /// The words of each case of a call.
+    fn of_call(&self, call: u32) -> Vec<&[u32]> {
+        let mut found = Vec::new();
+        let mut rest = self.words.as_slice();
+        while let Some((&[number, count], after)) = rest.split_first_chunk() {
+            let (words, later) = after.split_at(after.len().min(count as usize));
+            if number == call {
+                found.push(words);
+            }
+            rest = later;
+        }
+        found
+    }
+
     /// Call 7: a record judged.
     pub fn judge(&mut self, bottle: &Bottle) {
         self.add(7, bottle.words());
@@ -50,7 +66,7 @@ impl Cases {
 /// the middle of it.
 pub fn replay_input() -> Vec<u8> {
     let mut cases = Cases::default();
-    let subjects: [fn(&mut Cases); 12] = [
+    let subjects: [fn(&mut Cases); 13] = [
         hydrogen::all,
         readings::all,
         questions::all,
@@ -62,6 +78,7 @@ pub fn replay_input() -> Vec<u8> {
         charts::all,
         batches::all,
         listings::all,
+        joins::all,
         |cases| cases.begin(7, RECORD_WORDS, &Bottle::printed().words()[..ALKALINITY]),
     ];
     for subject in subjects {
@@ -77,7 +94,7 @@ mod tests {
     #[test]
     fn only_the_last_case_is_malformed() {
         let input = super::replay_input();
-        assert!(input.len() < 1_600_000, "{} bytes", input.len());
+        assert!(input.len() < 4_000_000, "{} bytes", input.len());
         let text = replay::text(&input);
         let malformed = text.lines().filter(|line| *line == "malformed").count();
         assert_eq!(malformed, 1);
