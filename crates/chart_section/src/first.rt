@@ -1,5 +1,8 @@
 // The chart at the front of the words.
+use crate::ELEMENT;
 use crate::HEAD_WORDS;
+use crate::LATER_COUNT;
+use crate::SETUP_COUNT;
 use crate::elements;
 use chart::Last;
 use refusal::Refusal;
@@ -28,9 +31,9 @@ pub fn read_one(words: &[u32], used: &[u32]) -> ChartRead
     if words.len() < HEAD_WORDS {
         return ChartRead::Refused(Refusal::BatchLength);
     }
-    let element = words[0];
-    let setup = wide(words[1]);
-    let later = wide(words[2]);
+    let element = words[ELEMENT];
+    let setup = wide(words[SETUP_COUNT]);
+    let later = wide(words[LATER_COUNT]);
     let is_new = elements::is_new_element(used, element);
     let fits = chart::values::counts_fit(setup, later);
     if !is_new {

@@ -14,6 +14,13 @@ pub const MOST_CHARTS: usize = 10;
 // A chart's words before its values: element, setup count and later count.
 pub const HEAD_WORDS: usize = 3;
 
+// Where each of them stands.
+pub const ELEMENT: usize = 0;
+
+pub const SETUP_COUNT: usize = 1;
+
+pub const LATER_COUNT: usize = 2;
+
 // The words of a chart that has the most values of both sorts.
 pub const MOST_CHART: usize = HEAD_WORDS + (MOST_SETUP + MOST_LATER);
 

@@ -13,7 +13,8 @@ use Rattle.refusal.specs.declared.Refusal.the-variants as refusal
 use Rattle.refusal.proofs.LentLaws.{Answers, refused-before, too-short, written, told-answer, told-refusal}
 use Rattle.words.specs.Words.{wordsOf, bytesOf, wordBytes}
 use Rattle.words.specs.Placing.{within, placedWithin}
-use Rattle.words.proofs.Laws.{length-bytes, packed}
+use Rattle.words.proofs.PackedLaws.{length-bytes}
+use Rattle.words.proofs.Laws.{packed}
 use Rattle.words.proofs.SliceLaws.{front-of}
 use Rattle.batch.specs.Batches.{Batch, batchOf, testedBy, testOf}
 use Rattle.batch.specs.Input.{mostWords, isInput}

@@ -14,7 +14,8 @@ use Rattle.refusal.proofs.Rows.{row-given}
 use Rattle.refusal.proofs.Outcomes.{never}
 use Rattle.words.specs.Each.{Every}
 use Rattle.words.specs.Words.{wordsOf, bytesOf, wordBytes}
-use Rattle.words.proofs.Laws.{length-bytes, words-back}
+use Rattle.words.proofs.EachLaws.{every-place, place-every}
+use Rattle.words.proofs.PackedLaws.{Byte, Word, length-bytes, words-back, words-small}
 use Rattle.batch.specs.Batches.{Batch, batchOf}
 use Rattle.batch.specs.Input.{mostWords, mostBytes, isInput}
 use Rattle.batch.specs.Layout.{layout}
@@ -23,7 +24,7 @@ use Rattle.joining.specs.Joins.{joined, joinedWords, joinedBy}
 use Rattle.joining.specs.Files.{fileOf, asBytes, joinedFile, AreBytes, JoinedFiles, JoinsFiles}
 use Rattle.joining.specs.Promise.{JoinedAs}
 use Rattle.joining.proofs.Laws.{joined-as}
-use Rattle.joining.proofs.SmallLaws.{Byte, Word, every-place, place-every, words-small, layout-small}
+use Rattle.joining.proofs.SmallLaws.{layout-small}
 
 -- a file that was read: its words are a batch's, and they are small where its bytes are bytes
 read-words : (bytes : List ℕ) (b : Batch) → fileOf bytes ≡ given b → batchOf (wordsOf bytes) ≡ given b
@@ -31,7 +32,7 @@ unfolding fileOf
 read-words bytes b e = row-given ((isInput bytes, numberOf refusal.BatchLength) ∷ []) (batchOf (wordsOf bytes)) b e .1
 
 read-small : (bytes : List ℕ) (b : Batch) → AreBytes bytes → fileOf bytes ≡ given b → Every Word (layout b)
-read-small bytes b small e = rw (sym (layout-laws .reads (wordsOf bytes) b (read-words bytes b e))) (words-small bytes (place-every Byte bytes small))
+read-small bytes b small e = rw (sym (layout-laws .reads (wordsOf bytes) b (read-words bytes b e))) (words-small bytes (place-every Byte 0 bytes small))
 
 -- the bytes of so many words are an input
 bytes-input : (w : List ℕ) → length w ≤ mostWords → isInput (bytesOf w) ≡ true
@@ -48,7 +49,7 @@ module _ (first second : List ℕ) (f : AreBytes first) (s : AreBytes second) wh
   read-joined a b w one other j =
       let small : Every Word w = rw (j .laid) (layout-small a b (j .valid) (read-small first a f one) (read-small second b s other)) in
       let few : length w ≤ mostWords = rw (j .laid) (layout-laws .fits (joined a b) (j .valid)) in
-      rw (bytes-input w few, words-back w (every-place w small)) (j .read)
+      rw (bytes-input w few, words-back w (every-place Word 0 (omega arith) w small)) (j .read)
 
   by-words : (a b : Batch) (bytes : List ℕ) (x : Outcome (List ℕ)) → joinedWords a b ≡ x → fileOf first ≡ given a → fileOf second ≡ given b → asBytes x ≡ given bytes
       → fileOf bytes ≡ given (joined a b)

@@ -1,19 +1,19 @@
 -- The buffer of joined charts, empty and with one chart more.
 use mathlib.Core.Path.{_≡_, refl, sym, ap, _∙_}
-use mathlib.Core.List.{List, [], _∷_, _++_, append-assoc, append-nil}
+use mathlib.Core.List.{List, [], _∷_, _++_, append-nil}
 use Prim.Native.Nat.{ℕ, _+_, _≤_}
 use native.Mathlib.Omega.{arith}
 use lib.ListN.{length, take, length-append}
 use Rattle.refusal.specs.Lent.{placed}
 use Rattle.refusal.proofs.PlaceLaws.{placed-take, length-placed}
 use Rattle.words.specs.Sections.{allWords}
+use Rattle.words.proofs.SectionLaws.{words-append}
 use Rattle.chart_section.specs.ChartSection.{Chart, mostChart, chartWords}
 use Rattle.joining.specs.Steps.{bufferWords, Filled}
 
 words-more : (l : List Chart) (c : Chart) → allWords chartWords (l ++ c ∷ []) ≡ allWords chartWords l ++ chartWords c
 unfolding allWords
-words-more [] c = append-nil (chartWords c)
-words-more (d ∷ l) c = rw (words-more l c) (sym (append-assoc (chartWords d) (allWords chartWords l) (chartWords c)))
+words-more l c = words-append chartWords l (c ∷ []) ∙ ap (λ (t : List ℕ). allWords chartWords l ++ t) (append-nil (chartWords c))
 
 pub filled-none : (charts : List ℕ) → length charts ≡ bufferWords → Filled charts 0 []
 unfolding allWords

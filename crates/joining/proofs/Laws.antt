@@ -14,8 +14,7 @@ use Rattle.refusal.specs.declared.Refusal.the-variants as refusal
 use Rattle.refusal.proofs.Rows.{row-given}
 use Rattle.refusal.proofs.Outcomes.{never}
 use Rattle.chart.specs.Values.{mostLater}
-use Rattle.words.specs.Each.{Every}
-use Rattle.words.proofs.EachLaws.{every-append}
+use Rattle.words.proofs.EachLaws.{every-append, every-parts}
 use Rattle.chart_section.specs.ChartSection.{Chart}
 use Rattle.batch.specs.Batches.{Batch, mostSamples, batchOf}
 use Rattle.batch.specs.Rows.{answerOf, answeredBy, batchAnswer}
@@ -30,10 +29,6 @@ use Rattle.joining.proofs.FoundLaws.{found-at}
 use Rattle.joining.proofs.RowLaws.{kept-first, kept-second, flag-of}
 
 -- ---- the joined charts
-
-every-at : (P : Chart → Type 0) (before : List Chart) (c : Chart) (after : List Chart) → Every P (before ++ c ∷ after) → P c
-every-at P [] c after p = p .0
-every-at P (x ∷ before) c after p = every-at P before c after (p .1)
 
 agrees-both : (c d : Chart) (m : Match) → m ≡ Match.both d → Agrees c m → (c .setup ≡ d .setup) × (length (c .later ++ d .later) ≤ mostLater)
 agrees-both c d m e a =
@@ -78,7 +73,7 @@ module _ (a b : Batch) (p : ValidBatch a) (q : ValidBatch b) (words : List ℕ) 
         read = read;
         setups = λ c d before after earlier further at other key.
             agrees-both c d (matchIn (b .charts) (keyOf c)) (found-at (b .charts) (q .charts .each) earlier d further other (keyOf c) (sym key))
-            (every-at _ before c after (rw at at (passed .0)));
+            (every-parts _ before (c ∷ after) (rw at at (passed .0)) .1 .0);
         answered = answered-by words (joined a b) read;
         rows = length-append (a .samples) (b .samples);
         keptFirst = λ i h. kept-first (joined a b .charts) (a .charts) _ _ (a .samples) (b .samples) i h;

@@ -1,15 +1,15 @@
--- The words of two batches that were read from bytes have 32 bits, and so have those of the joined batch.
+-- Where the words of two batches have 32 bits, so have those of the joined batch.
 use mathlib.Core.Path.{_≡_, refl}
 use mathlib.Core.List.{List, [], _∷_, _++_, map}
-use Prim.Native.Nat.{ℕ, zero, suc, _^_, _<_}
+use Prim.Native.Nat.{_^_, _<_}
 use native.Mathlib.Omega.{arith}
-use lib.ListN.{length, getD}
+use lib.ListN.{length}
 use Rattle.chart.proofs.ValueLaws.{counts-within}
 use Rattle.words.specs.Each.{Every}
-use Rattle.words.specs.Words.{wordsOf}
 use Rattle.words.specs.Sections.{allWords, sectionWords}
-use Rattle.words.proofs.EachLaws.{every-append}
-use Rattle.words.proofs.SectionLaws.{words-append}
+use Rattle.words.proofs.EachLaws.{every-append, every-parts}
+use Rattle.words.proofs.SectionLaws.{words-append, words-parts, parts-words}
+use Rattle.words.proofs.PackedLaws.{Word}
 use Rattle.chart_section.specs.ChartSection.{Chart, chartWords}
 use Rattle.batch.specs.Batches.{Batch}
 use Rattle.batch.specs.Layout.{sampleWords, layout, ValidBatch}
@@ -17,48 +17,6 @@ use Rattle.joining.specs.Charts.{Match, keyOf, matchIn, joinedWith, join
 use Rattle.joining.specs.Joins.{joined}
 use Rattle.joining.proofs.OnlyLaws.{InRange, valid-parts, every-only}
 use Rattle.joining.proofs.ChartLaws.{found-has}
-
-abbrev pub Word : ℕ → Type 0
-Word x = x < 2 ^ 32
-
-abbrev pub Byte : ℕ → Type 0
-Byte x = x < 256
-
--- ---- lists
-
-pub every-parts : {A : Type 0} (P : A → Type 0) (l t : List A) → Every P (l ++ t) → Every P l × Every P t
-every-parts P [] t p = (tt, p)
-every-parts P (a ∷ l) t p = let r = every-parts P l t (p .1) in ((p .0, r .0), r .1)
-
-module _ {A : Type 0} (words : A → List ℕ) where
-  pub words-parts : (l : List A) → Every Word (allWords words l) → Every (λ a. Every Word (words a)) l
-  unfolding allWords
-  words-parts [] p = tt
-  words-parts (a ∷ l) p = let r = every-parts Word (words a) (allWords words l) p in (r .0, words-parts l (r .1))
-
-  pub parts-words : (l : List A) → Every (λ a. Every Word (words a)) l → Every Word (allWords words l)
-  unfolding allWords
-  parts-words [] p = tt
-  parts-words (a ∷ l) p = every-append Word (words a) (allWords words l) (p .0) (parts-words l (p .1))
-
-pub every-place : (l : List ℕ) → Every Word l → (i : ℕ) → getD l i 0 < 2 ^ 32
-every-place [] p i = omega arith
-every-place (x ∷ l) p zero = p .0
-every-place (x ∷ l) p (suc i) = every-place l (p .1) i
-
--- ---- words of bytes
-
-pub place-every : (P : ℕ → Type 0) (l : List ℕ) → ((i : ℕ) → P (getD l i 0)) → Every P l
-place-every P [] p = tt
-place-every P (x ∷ l) p = (p 0, place-every P l (λ i. p (suc i)))
-
-pub words-small : (b : List ℕ) → Every Byte b → Every Word (wordsOf b)
-unfolding wordsOf
-words-small (x ∷ y ∷ z ∷ w ∷ b) p = (omega (arith, p .0, p .1 .0, p .1 .1 .0, p .1 .1 .1 .0), words-small b (p .1 .1 .1 .1))
-words-small [] p = tt
-words-small (x ∷ []) p = tt
-words-small (x ∷ y ∷ []) p = tt
-words-small (x ∷ y ∷ z ∷ []) p = tt
 
 -- ---- charts
 
@@ -82,10 +40,10 @@ firsts-small (c ∷ cs) second q p v =
 charts-small : (first second : List Chart) → Every InRange (joinedCharts first second) → Every Word (allWords chartWords first) → Every Word (allWords chartWords second)
     → Every Word (allWords chartWords (joinedCharts first second))
 charts-small first second v p q =
-    let ones = words-parts chartWords first p in
-    let others = words-parts chartWords second q in
+    let ones = words-parts chartWords Word first p in
+    let others = words-parts chartWords Word second q in
     let ranges = every-parts InRange (map (joinedChart second) first) (onlyIn first second) v in
-    parts-words chartWords (joinedCharts first second)
+    parts-words chartWords Word (joinedCharts first second)
     (every-append ChartSmall (map (joinedChart second) first) (onlyIn first second)
     (firsts-small first second others ones (ranges .0))
     (every-only ChartSmall first second others))

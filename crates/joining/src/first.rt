@@ -6,6 +6,8 @@ use crate::putting;
 use crate::same;
 use chart::values::MOST_LATER;
 use chart_section::HEAD_WORDS;
+use chart_section::LATER_COUNT;
+use chart_section::SETUP_COUNT;
 use refusal::Refusal;
 ghost use mathlib.Core.Path.{_≡_};
 ghost use Prim.Native.Nat.{_+_, _≤_};
@@ -39,13 +41,13 @@ fn join_both(words: &[u32], other: &[u32], charts: &mut [u32], at: usize) -> Cha
     requires { ⌜ ChartThere (now words) × ChartThere (now other) × (at + mostChart ≤ length (now charts)) ⌝ }
     ensures { λ r. ⌜ ChartSaid r (chartAt (now (words .entry))) (Match.both (chartAt (now (other .entry)))) (now (charts .entry)) (now (charts .exit)) at ⌝ }
 {
-    let middle = HEAD_WORDS + chart_at::wide(words[1]);
-    let other_middle = HEAD_WORDS + chart_at::wide(other[1]);
+    let middle = HEAD_WORDS + chart_at::wide(words[SETUP_COUNT]);
+    let other_middle = HEAD_WORDS + chart_at::wide(other[SETUP_COUNT]);
     if !same::same_values(&words[HEAD_WORDS..middle], &other[HEAD_WORDS..other_middle]) {
         return ChartJoined::Refused(Refusal::SetupDiffers);
     }
-    let later = chart_at::wide(other[2]);
-    if chart_at::wide(words[2]) + later > MOST_LATER {
+    let later = chart_at::wide(other[LATER_COUNT]);
+    if chart_at::wide(words[LATER_COUNT]) + later > MOST_LATER {
         return ChartJoined::Refused(Refusal::JoinedCount);
     }
     let end = other_middle + later;

@@ -1,6 +1,9 @@
 // A chart put into the buffer.
 use crate::chart_at;
+use chart_section::ELEMENT;
 use chart_section::HEAD_WORDS;
+use chart_section::LATER_COUNT;
+use chart_section::SETUP_COUNT;
 ghost use mathlib.Core.Path.{_≡_};
 ghost use Prim.Native.Nat.{_+_, _≤_};
 ghost use lib.ListN.{length};
@@ -17,8 +20,8 @@ pub fn put_chart(words: &[u32], more: &[u32], charts: &mut [u32], at: usize) -> 
     ensures end { λ r. ⌜ r ≡ at + chartSize (now (words .entry)) + length (now (more .entry)) ⌝ }
 {
     let end = chart_at::size(words);
-    let later = words[2] + narrow(more.len());
-    let head = [words[0], words[1], later];
+    let later = words[LATER_COUNT] + narrow(more.len());
+    let head = [words[ELEMENT], words[SETUP_COUNT], later];
     words::place(&head, charts, at);
     words::place(&words[HEAD_WORDS..end], charts, at + HEAD_WORDS);
     words::place(more, charts, at + end);

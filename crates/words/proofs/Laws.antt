@@ -7,9 +7,9 @@ use lib.ListN.{length, take, drop}
 use lib.Seq.{take-all, take-at}
 use Rattle.refusal.specs.Lent.{placed}
 use Rattle.refusal.proofs.PlaceLaws.{length-placed, placed-then, placed-front}
-use Rattle.words.specs.Words.{wordsOf, wordBytes, bytesOf, BytesHoldWords}
+use Rattle.words.specs.Words.{wordsOf, wordBytes, bytesOf}
 use Rattle.words.specs.Placing.{within, placedWithin}
-use Rattle.words.proofs.PackedLaws.{length-words, length-bytes as bytes-long, words-back as held-words}
+use Rattle.words.proofs.PackedLaws.{length-words, length-bytes}
 
 module _ (old : List ℕ) (at : ℕ) (words : List ℕ) (fits : at + length words ≤ length old) where
   all-within : within old at words ≡ words
@@ -32,12 +32,6 @@ unpacked old bytes h {words} {count} c w =
     let all : within old 0 (wordsOf bytes) ≡ wordsOf bytes = all-within old 0 (wordsOf bytes) (omega (arith, length-words bytes)) in
     let many : length (wordsOf bytes) ≡ count - 0 = omega (arith, c, ap length all) in
     ap (take (count - 0)) (w ∙ ap (placed old 0) all) ∙ take-at (wordsOf bytes) (drop (0 + length (wordsOf bytes)) old) (count - 0) many
-
-pub length-bytes : (words : List ℕ) → length (bytesOf words) ≡ wordBytes * length words
-length-bytes = bytes-long
-
-pub words-back : BytesHoldWords
-words-back = held-words
 
 -- the bytes of words, at the start of a slice
 pub packed : (old words : List ℕ) → wordBytes * length words ≤ length old → {bytes : List ℕ} {count : ℕ}

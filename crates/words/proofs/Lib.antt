@@ -1,5 +1,5 @@
 -- The laws behind this crate's contracts, and those on words read from the front. Other crates cite the public ones.
-mod PackedLaws
+pub mod PackedLaws
 mod PlacingLaws
 pub mod SliceLaws
 pub mod ManyLaws

@@ -6,6 +6,7 @@ use Prim.Native.Nat.{ℕ, zero, suc, _+_, _*_, _/_, _%_, _^_, _<_}
 use native.Mathlib.Omega.{arith}
 use lib.ListN.{length, getD}
 use Rattle.words.specs.Words.{wordsOf, wordBytes, bytesOf, BytesHoldWords}
+use Rattle.words.specs.Each.{Every}
 use Rattle.words.specs.Steps.{wordAt, byteOf, byteAt}
 
 pub length-words : (b : List ℕ) → length (wordsOf b) ≡ length b / wordBytes
@@ -72,3 +73,18 @@ pub words-back : BytesHoldWords
 unfolding wordsOf bytesOf
 words-back [] small = refl
 words-back (x ∷ w) small = rw (together x (small 0), words-back w (λ i. small (suc i)))
+
+-- words that bytes hold have 32 bits
+abbrev pub Byte : ℕ → Type 0
+Byte x = x < 256
+
+abbrev pub Word : ℕ → Type 0
+Word x = x < 2 ^ 32
+
+pub words-small : (b : List ℕ) → Every Byte b → Every Word (wordsOf b)
+unfolding wordsOf
+words-small (x ∷ y ∷ z ∷ w ∷ b) p = (omega (arith, p .0, p .1 .0, p .1 .1 .0, p .1 .1 .1 .0), words-small b (p .1 .1 .1 .1))
+words-small [] p = tt
+words-small (x ∷ []) p = tt
+words-small (x ∷ y ∷ []) p = tt
+words-small (x ∷ y ∷ z ∷ []) p = tt

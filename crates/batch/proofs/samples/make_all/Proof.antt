@@ -47,7 +47,7 @@ returns-2 c =
     (sym (judging .judge-tested .ensures) ∙ ap judgementOutcome (c .before .why .given .1))
 
 returns-3 : tie.Need-returns-3 Inv-loop μ-loop
-returns-3 c = search making-left
+returns-3 c = making-left _ _ _ _ _ _ _ _ (c .before .before .loop .inv) (search needs) (c .if2 .taken)
 
 returns-4 : tie.Need-returns-4 Inv-loop μ-loop
 returns-4 c =

@@ -33,7 +33,7 @@ returns-2 c =
     sym (testing-refused _ _ _ _ (turn .loop .inv) (search needs) (search needs) (sym (tested .test .ensures) ∙ ap acceptanceOutcome (told .why .given .1)))
 
 returns-3 : tie.Need-returns-3 Inv-loop μ-loop
-returns-3 c = sym (search testing-left)
+returns-3 c = sym (testing-left _ _ _ _ (c .before .before .loop .inv) (search needs) (c .if2 .taken))
 
 returns-4 : tie.Need-returns-4 Inv-loop μ-loop
 returns-4 c = sym (search testing-done)
