@@ -2,17 +2,15 @@
 use mathlib.Core.Path.{_≡_, refl, sym, _∙_}
 use mathlib.Core.Bool.{Bool, true, false, _&&_, Bool·beq}
 use mathlib.Core.List.{List, [], _∷_}
-use Prim.Native.Nat.{ℕ, _+_, _-_, _≤_, _<_}
-use native.Mathlib.Nat.{lt-of-le-of-lt}
+use mathlib.Core.Logic.{_↔_}
+use Prim.Native.Nat.{ℕ, _+_, _-_, _≤_}
 use native.Mathlib.Omega.{arith}
 use lib.Dec.{T, leb, ltb, eqb, leb→le, ltb→lt}
 use lib.ListN.{getD}
 use lib.Ieee.Fits.{and-l, and-r}
 use borrow.Author.Tests.{eqb-true, eq-eqb}
-use Rattle.hydrogen.specs.Floors.{leastPh, greatestPh, isWhole, hundredth, power, floorAt}
-use Rattle.hydrogen.specs.TrueHydrogen.{FloorRule}
+use Rattle.hydrogen.specs.Floors.{leastPh, greatestPh, isWhole, WholePh, hundredth, power, floorAt}
 use Rattle.hydrogen.proofs.Entries.{every, at}
-use Rattle.hydrogen.proofs.Powers.{lt-back}
 use Rattle.hydrogen.proofs.Root.{floor-is}
 
 -- the rule as three tests: x to the hundredth is at most the power of H at p, x + 1 to the hundredth is above it, and it is equal exactly at a whole pH
@@ -144,40 +142,34 @@ same true false t = absurd t
 same false true t = absurd t
 same false false t = refl
 
--- a number that passes the three tests has the rule of the floor
-rule-of : (p x : ℕ) → T (right p x) → FloorRule p x
-rule-of p x t =
-    record {
-      low = leb→le (hundredth x) (power p) (and-l (low p x) (high p x && exact p x) t);
-      high = is-high;
-      exact = (
-        λ w. eqb-true (hundredth x) (power p) (sym is-exact ∙ w),
-        λ e. is-exact ∙ eq-eqb (hundredth x) (power p) e,
-      );
-      greatest = λ y l. omega (arith, lt-back {a = y} {b = x + 1} (lt-of-le-of-lt l is-high));
-    }
-  where
-    rest : T (high p x && exact p x)
-    rest = and-r (low p x) (high p x && exact p x) t
+-- a number that passes the three tests is the floor, and its hundredth power is the power of H exactly at a whole pH
+module _ (p x : ℕ) (passes : T (right p x)) where
+  rest : T (high p x && exact p x)
+  rest = and-r (low p x) (high p x && exact p x) passes
 
-    is-high : power p < hundredth (x + 1)
-    is-high = ltb→lt (power p) (hundredth (x + 1)) (and-l (high p x) (exact p x) rest)
+  is-floor : floorAt p ≡ x
+  is-floor =
+      floor-is p x (leb→le (hundredth x) (power p) (and-l (low p x) (high p x && exact p x) passes))
+      (ltb→lt (power p) (hundredth (x + 1)) (and-l (high p x) (exact p x) rest))
 
-    is-exact : isWhole p ≡ eqb (hundredth x) (power p)
-    is-exact = same (isWhole p) (eqb (hundredth x) (power p)) (and-r (high p x) (exact p x) rest)
+  is-exact : WholePh p ↔ (hundredth x ≡ power p)
+  is-exact = (λ w. eqb-true (hundredth x) (power p) (sym told ∙ w), λ e. told ∙ eq-eqb (hundredth x) (power p) e)
+    where
+      told : isWhole p ≡ eqb (hundredth x) (power p)
+      told = same (isWhole p) (eqb (hundredth x) (power p)) (and-r (high p x) (exact p x) rest)
 
 module _ (p : ℕ) (l : leastPh ≤ p) (u : p ≤ greatestPh) where
-  entry-rule : FloorRule p (getD floors (p - leastPh) 0)
+  entry-passes : T (right p (getD floors (p - leastPh) 0))
   unfolding floors
-  entry-rule = rule-of p (getD floors (p - leastPh) 0) (rw place at (at right floors leastPh tested (p - leastPh) (omega arith)))
+  entry-passes = rw place at (at right floors leastPh tested (p - leastPh) (omega arith))
     where
       place : leastPh + (p - leastPh) ≡ p
       place = omega arith
 
   -- the entry is the floor
   pub floor-entry : floorAt p ≡ getD floors (p - leastPh) 0
-  floor-entry = floor-is p (getD floors (p - leastPh) 0) (entry-rule .low) (entry-rule .high)
+  floor-entry = is-floor p (getD floors (p - leastPh) 0) entry-passes
 
-  -- so the floor has its rule
-  pub floor-rule : FloorRule p (floorAt p)
-  floor-rule = rw floor-entry entry-rule
+  -- and is exact at a whole pH alone
+  pub entry-exact : WholePh p ↔ (hundredth (floorAt p) ≡ power p)
+  entry-exact = rw floor-entry (is-exact p (getD floors (p - leastPh) 0) entry-passes)

@@ -15,7 +15,7 @@ use Rattle.refusal.specs.declared.Refusal.the-variants as refusal
 use Rattle.hydrogen.specs.Floors.{leastPh, greatestPh, hundredth, power, floorAt, mostFloor, floorOf}
 use Rattle.hydrogen.specs.TrueHydrogen.{FractionLe, FloorRule, HydrogenAt}
 use Rattle.hydrogen.proofs.Root as root
-use Rattle.hydrogen.proofs.FloorTable.{floor-rule}
+use Rattle.hydrogen.proofs.Rule.{floor-rule}
 use Rattle.hydrogen.proofs.Placing.{placing}
 use Rattle.hydrogen.proofs.Order.{ordered}
 

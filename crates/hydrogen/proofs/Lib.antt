@@ -3,6 +3,7 @@ mod Entries
 mod Powers
 mod Root
 mod FloorTable
+mod Rule
 mod RowLaws
 mod Placing
 mod Order
