@@ -113,11 +113,15 @@ pub trait Inequality {
     fn span(&self) -> Span;
 }
 
+/// The verdict on an inequality at a pH.
+fn decide(ph: Ph, inequality: &impl Inequality) -> Verdict {
+    decide_by(i128::from(ph.floor()), ph.has_whole_hydrogen(), inequality)
+}
+
 /// "1 if the inequality holds for every fraction strictly between h and h + 1,
 /// 2 if for none, else 3. With p a multiple of 100 the verdict is 1 or 2."
-fn decide(ph: Ph, inequality: &impl Inequality) -> Verdict {
-    let h = i128::from(ph.floor());
-    if ph.has_whole_hydrogen() {
+pub fn decide_by(h: i128, is_whole: bool, inequality: &dyn Inequality) -> Verdict {
+    if is_whole {
         return Verdict::within_if(inequality.holds_at(h));
     }
     let span = inequality.span();

@@ -5,6 +5,7 @@ mod Root
 mod FloorTable
 mod Rule
 mod RowLaws
+mod MatchLaws
 mod Placing
 mod Order
 pub mod Laws

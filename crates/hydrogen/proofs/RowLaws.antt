@@ -28,13 +28,3 @@ part (suc n) p l u =
 -- so the part of that list is the row of m tenths, where m is k
 pub row-at : {m k : ℕ} → m ≡ k → (leastPh ≤ rowLength * m) × (rowLength * m + rowLength ≤ greatestPh) → take rowLength (drop (rowLength * k - leastPh) floors) ≡ floorsFrom (rowLength * m) rowLength
 row-at {m} {k} e h = rw (sym e) (part rowLength (rowLength * m) (h .0) (omega arith))
-
--- m is none of the n numbers from k on
-abbrev NoneOf : ℕ → ℕ → ℕ → Type 0
-NoneOf k zero m = Unit {0}
-NoneOf k (suc n) m = NoneOf k n m × (m ≡ k + n → ⊥)
-
--- so it is above them, where it is not below them
-pub none-of : (k n m : ℕ) → k ≤ m → NoneOf k n m → k + n ≤ m
-none-of k zero m l h = omega arith
-none-of k (suc n) m l h = let above : k + n ≤ m = none-of k n m l (h .0) in omega (arith, above, h .1)

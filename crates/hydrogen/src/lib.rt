@@ -18,6 +18,9 @@ const LEAST_PH: u32 = 200;
 // The greatest p.
 const GREATEST_PH: u32 = 1000;
 
+// A unit of pH in hundredths.
+const PER_PH: u32 = 100;
+
 // The floor of true hydrogen in u, which is 10^-9 µeq/L, or why there is none.
 pub enum FloorResult {
     Given(u64),
@@ -39,5 +42,5 @@ pub fn floor_at(p: u32) -> FloorResult
 pub fn is_whole(p: u32) -> bool
     ensures { λ r. ⌜ r ≡ isWhole p ⌝ }
 {
-    p % 100 == 0
+    p % PER_PH == 0
 }

@@ -1,19 +1,16 @@
 -- `hydrogen::table::row` meets its contract: each arm gives its part of the list of all floors.
 use mathlib.Core.Path.{_≡_}
-use Prim.Native.Nat.{ℕ, _≤_}
 use native.Mathlib.Omega.{arith}
 use Rattle.hydrogen.proofs.FloorTable.{floors}
-use Rattle.hydrogen.proofs.RowLaws.{row-at, none-of}
+use Rattle.hydrogen.proofs.RowLaws.{row-at}
+use Rattle.hydrogen.proofs.MatchLaws.{last-arm}
 use Rattle.hydrogen.proofs.table.row.Statement.{statement}
 use Rattle.hydrogen.proofs.table.row.Tie as tie
 
--- what is none of the 79 tenths from 2.0 on is 9.9
 last : tie.Need-returns-80
 unfolding floors
 last c =
-    let tenths : ℕ = c .before .args .tenths in
-    let above : 99 ≤ tenths = none-of 20 79 tenths (omega arith) (c .match .rest) in
-    let is : tenths ≡ 99 = omega (arith, above) in
+    let is : c .before .args .tenths ≡ 99 = last-arm 20 79 (c .before .args .tenths) (omega arith) (omega arith) (c .match .rest) in
     row-at is (c .before .pre)
 
 pub row-spec : {M : Type 1} → statement M
