@@ -1,6 +1,7 @@
 //! Faults put into the stand-in: each must be found by the part that it names.
 
 mod amounts;
+mod floors;
 mod joins;
 mod list;
 mod numbers;
@@ -17,10 +18,13 @@ use crate::numbers::{
 };
 use crate::stand_in::{write, write_telling, StandIn};
 use amounts::{in_micrograms, misread, with_amounts};
+use floors::judge_by_another_floor;
 use joins::misjoined;
 use numbers::{misnumbered, misnumbered_rows, offer_by_the_low_part, text_of_low_parts};
 use reference::charts::SEVEN_ON_ONE_SIDE;
-use reference::checks::{conductivity, ion_balance, Conductivity, Inequality, IonBalance};
+use reference::checks::{
+    conductivity, decide_by, ion_balance, Conductivity, Inequality, IonBalance,
+};
 use reference::docket::agree;
 use reference::readings::Reading;
 use reference::record::Record;
@@ -163,6 +167,9 @@ fn distort(fault: Fault, record: &Record, verdicts: &mut [u32]) {
             above.conductivity = 201;
             verdicts[BALANCE_CHECK] = ion_balance(&above).number();
         }
+        OneDivisionTooFew | DividedToTheNearest | NextNumberDivided | WrongFloorAt253 => {
+            judge_by_another_floor(fault, record, verdicts);
+        }
         _ => {}
     }
 }
@@ -192,7 +199,7 @@ fn take_the_floor(record: &Record, verdicts: &mut [u32]) {
     let h = i128::from(record.ph.floor());
     for (place, inequality) in inequalities(record).into_iter().flatten() {
         if verdicts[place] == 3 {
-            verdicts[place] = if inequality.holds_at(h) { 1 } else { 2 };
+            verdicts[place] = decide_by(h, true, &*inequality).number();
         }
     }
 }

@@ -1,5 +1,5 @@
 //! The proved library against the other implementation of document 01, with
-//! requests (i) to (iii) of document 02.
+//! requests (i) to (iv) of document 02.
 
 mod answers;
 mod batches;

@@ -103,6 +103,21 @@ mod tests {
         }
     }
 
+    /// Document 02 (iv): "each hundred further divides by ten once more,
+    /// rounded down". Each floor here is found by itself.
+    #[test]
+    fn each_hundred_further_divides_by_ten() {
+        for first in LEAST_PH..LEAST_PH + 100 {
+            let Ok(mut divided) = floor(first) else {
+                panic!("p {first}")
+            };
+            for p in (first + 100..=MOST_PH).step_by(100) {
+                divided /= 10;
+                assert_eq!(floor(p), Ok(divided), "p {p}");
+            }
+        }
+    }
+
     #[test]
     fn hydrogen_lies_from_its_floor_to_below_the_next() {
         for p in LEAST_PH..=MOST_PH {

@@ -1,5 +1,5 @@
 //! The water analysis judge a second time, written from documents 01 and 02 (i)
-//! to (iii) and the settled readings of their open points alone.
+//! to (iv) and the settled readings of their open points alone.
 //!
 //! The modules follow the sections of document 01. Every algorithm is the most
 //! literal one: whole numbers and exact fractions, nothing tabulated beyond

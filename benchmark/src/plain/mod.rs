@@ -1,5 +1,5 @@
 //! The same checks in idiomatic safe Rust, as one would write them without a
-//! prover: 64-bit arithmetic, a table of floors, slices and iterators.
+//! prover: 64-bit arithmetic, a table of all floors, slices and iterators.
 
 pub mod batch;
 pub mod chart;

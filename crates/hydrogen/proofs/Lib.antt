@@ -2,7 +2,9 @@
 mod Entries
 mod Powers
 mod Root
+mod HundredLaws
 mod FloorTable
+mod Exact
 mod Rule
 mod RowLaws
 mod MatchLaws

@@ -1,15 +1,15 @@
 -- The floor at any p, from its definition: its hundredth power is small enough, no greater number's is, and the two bounds of its rule
--- name it.
-use mathlib.Core.Path.{_≡_}
+-- name it; where H is a whole number, it is its own floor.
+use mathlib.Core.Path.{_≡_, sym}
 use mathlib.Core.Bool.{cond}
 use Prim.Native.Nat.{ℕ, zero, suc, _+_, _≤_, _<_, zero-le}
-use native.Mathlib.Nat.{le-trans, lt-of-le-of-lt}
+use native.Mathlib.Nat.{le-trans, le-of-eq, le-antisymm, lt-of-le-of-lt}
 use native.Mathlib.Decide.{decLe}
 use native.Mathlib.Omega.{arith}
 use lib.Dec.{leb}
 use borrow.Author.Tests.{le-leb, lt-leb}
 use Rattle.hydrogen.specs.Floors.{hundredth, root, power, floorAt}
-use Rattle.hydrogen.proofs.Powers.{lt-back, le-own-power}
+use Rattle.hydrogen.proofs.Powers.{keeps-le, lt-back, le-own-power}
 
 -- searched down from k: what is found is small enough
 root-low : (n k : ℕ) → hundredth (root n k) ≤ n
@@ -55,3 +55,7 @@ module _ (p : ℕ) where
       let least : h ≤ floorAt p = floor-greatest h low in
       let most : floorAt p < h + 1 = lt-back (lt-of-le-of-lt floor-low high) in
       omega (arith, least, most)
+
+  -- where H is a whole number, it is its own floor
+  pub exact-by : (x : ℕ) → hundredth x ≡ power p → hundredth (floorAt p) ≡ power p
+  exact-by x e = le-antisymm floor-low (le-trans (le-of-eq (sym e)) (keeps-le (floor-greatest x (le-of-eq e))))

@@ -1,4 +1,5 @@
 // True hydrogen (document 01, 'Hydrogen'): the floor of H at a pH in hundredths, called p.
+mod hundreds;
 mod rows;
 mod table;
 
@@ -35,7 +36,7 @@ pub fn floor_at(p: u32) -> FloorResult
     if p < LEAST_PH || p > GREATEST_PH {
         return FloorResult::Refused(Refusal::Ph);
     }
-    FloorResult::Given(table::entry(p))
+    FloorResult::Given(hundreds::floor(p))
 }
 
 // Whether p is a whole pH, where true hydrogen is its floor.

@@ -18,7 +18,7 @@ returns c =
 returns-2 : tie.Need-returns-2
 returns-2 c =
     let p : ℕ = c .before .before .before .args .p in
-    (ap given (c .entry .ensures) ∙ sym (floor-in-range p (search needs) (search needs)), hydrogen-at p)
+    (ap given (c .floor .ensures .0) ∙ sym (floor-in-range p (search needs) (search needs)), hydrogen-at p)
 
 pub floor-at-spec : {M : Type 1} → statement M
 floor-at-spec = tie.close (tie.spec returns (λ c κs. search needs) returns-2)
