@@ -14,10 +14,10 @@ use Rattle.hydrogen.proofs.Laws.{floor-in-range, floor-is}
 use Rattle.reading.specs.Ranges.{inRange, isValue}
 use Rattle.reading.specs.Readings.{missingFrom, measuredFrom, readingOf}
 use Rattle.reading.specs.Amounts.{Amount, nearest, valueMass, valueAmount}
-use Rattle.reading.specs.Analytes.{massOf}
+use Rattle.reading.specs.Analytes.{massOf, rangeOf}
 use Rattle.record.specs.Record.{sampleNumber, phOf, readAt, readingAt, allBelow, accepted, acceptedRest}
 use Rattle.solution.specs.Ions.{cationFactor, anionFactor, conductance, sum}
-use Rattle.judge.specs.Ranges.{rangesWith}
+use Rattle.judge.specs.Ranges.{correctionWith, rangesWith}
 use Rattle.judge.specs.Corners.{decided}
 use Rattle.judge.specs.IonBalance.{balanceApplies, balanceLimit, ionBalanceOver}
 use Rattle.judge.specs.Conductivity.{conductivityLimit, conductivityOver}
@@ -118,5 +118,5 @@ settle [] t = tt
 settle (c ∷ cs) t = (holds c (and-l (test c) (tests cs) t), settle cs (and-r (test c) (tests cs) t))
 
 pub settled : Settled cases
-unfolding cases power inRange valueMass nearest ofBits accepted acceptedRest sampleNumber allBelow readAt readingAt readingOf missingFrom measuredFrom massOf valueAmount sum cationFactor anionFactor conductance balanceApplies balanceLimit conductivityLimit decided
+unfolding cases power inRange valueMass nearest ofBits accepted acceptedRest sampleNumber allBelow readAt readingAt readingOf missingFrom measuredFrom massOf rangeOf correctionWith valueAmount sum cationFactor anionFactor conductance balanceApplies balanceLimit conductivityLimit decided
 settled = settle cases tt

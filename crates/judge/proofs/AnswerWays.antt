@@ -12,30 +12,30 @@ use Rattle.record.specs.Record.{ammonium, sodium, nitrate, chloride, totalNitro
 use Rattle.record.specs.Tested.{Fields, analyteAt, fieldsIn, testedOutcome, termsOf, acceptedOf}
 use Rattle.record.proofs.AcceptedLaws.{accepted-given, valid-accepted, refused-for-all}
 use Rattle.solution.specs.declared.Solution.{Solution}
-use Rattle.solution.specs.Solutions.{sumsIn}
-use Rattle.solution.specs.ByValue.{sumsBy}
+use Rattle.solution.specs.Solutions.{sumRangesIn}
+use Rattle.solution.specs.ByValue.{sumRangesBy}
 use Rattle.solution.specs.Steps.{Bounded}
-use Rattle.solution.proofs.SolutionLaws.{sums-bounded}
+use Rattle.solution.proofs.SolutionLaws.{ranges-bounded}
 use Rattle.judge.specs.Judgements.{Four}
 use Rattle.judge.specs.ByValue.{balanceIn, conductivityIn, ratioIn, nitrogenIn, verdictsIn, judgedOf}
 use Rattle.judge.specs.Repeats.{acceptanceOf}
 
 -- the checks are handed sums that are not large, and their verdicts are those by value
-module _ (f : Fields) (floor : ℕ) {x : Solution} (made : sumsIn x ≡ sumsBy f floor) where
-  pub handed-bounded : Bounded (sumsIn x)
-  handed-bounded = rw made (sums-bounded f floor)
+module _ (f : Fields) (floor : ℕ) {x : Solution} (made : sumRangesIn x ≡ sumRangesBy f floor) where
+  pub handed-bounded : Bounded (sumRangesIn x)
+  handed-bounded = rw made (ranges-bounded f floor)
 
   pub verdicts-made : {balance conductivity ratio nitrogen : ℕ}
-      → balance ≡ balanceIn (f .kind) (analyteAt (f .analytes) organicCarbon) (f .conductivity) (sumsIn x)
-      → conductivity ≡ conductivityIn (f .conductivity) (sumsIn x)
-      → ratio ≡ ratioIn (f .kind) (analyteAt (f .analytes) sodium) (analyteAt (f .analytes) chloride) (sumsIn x)
-      → nitrogen ≡ nitrogenIn (analyteAt (f .analytes) totalNitrogen) (analyteAt (f .analytes) nitrate) (analyteAt (f .analytes) ammonium) (sumsIn x)
-      → record { balance = balance; conductivity = conductivity; ratio = ratio; nitrogen = nitrogen } ≡ verdictsIn f (sumsBy f floor)
+      → balance ≡ balanceIn (f .kind) (analyteAt (f .analytes) organicCarbon) (f .conductivity) (sumRangesIn x)
+      → conductivity ≡ conductivityIn (f .conductivity) (sumRangesIn x)
+      → ratio ≡ ratioIn (f .kind) (analyteAt (f .analytes) sodium) (analyteAt (f .analytes) chloride) (sumRangesIn x)
+      → nitrogen ≡ nitrogenIn (analyteAt (f .analytes) totalNitrogen) (analyteAt (f .analytes) nitrate) (analyteAt (f .analytes) ammonium) (sumRangesIn x)
+      → record { balance = balance; conductivity = conductivity; ratio = ratio; nitrogen = nitrogen } ≡ verdictsIn f (sumRangesBy f floor)
   verdicts-made a b c d = cc
 
 -- the verdicts, or why there are none
 module _ (own : TestedRecord) where
-  pub is-judged : {floor : ℕ} {v : Four} → own .tested ≡ tested.Accepted floor → v ≡ verdictsIn (fieldsIn own) (sumsBy (fieldsIn own) floor) → given v ≡ judgedOf (termsOf own)
+  pub is-judged : {floor : ℕ} {v : Four} → own .tested ≡ tested.Accepted floor → v ≡ verdictsIn (fieldsIn own) (sumRangesBy (fieldsIn own) floor) → given v ≡ judgedOf (termsOf own)
   unfolding judgedOf
   is-judged e p = rw e (ap (λ (x : Four). given x) p)
 

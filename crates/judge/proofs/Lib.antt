@@ -1,6 +1,7 @@
 -- The laws behind this crate's contracts. Other crates cite `Laws` and `RepeatLaws`, and nothing else of it.
 mod Crossing
 mod Mixing
+mod FactorLaws
 mod Deciding
 mod Picking
 mod Judging
@@ -13,13 +14,14 @@ mod BoundLaws
 mod AtHydrogenLaws
 mod BalanceLaws
 mod ConductivityLaws
+mod RatioLaws
 mod PointLaws
 mod Applying
 mod MatchLaws
 mod CheckWays
-mod RatioProofs
 mod TruthProofs
 mod AnswerWays
+mod HandedLaws
 mod JudgeLaws
 mod MostLaws
 pub mod Laws

@@ -8,7 +8,7 @@ use Rattle.judge.specs.IonBalance.{balanceLimit}
 use Rattle.judge.specs.Conductivity.{conductivityLimit}
 
 -- one of two that are at most n
-pub either-most : (b : Bool) {x y n : ℕ} → x ≤ n → y ≤ n → cond b x y ≤ n
+either-most : (b : Bool) {x y n : ℕ} → x ≤ n → y ≤ n → cond b x y ≤ n
 either-most true h k = h
 either-most false h k = k
 

@@ -1,54 +1,57 @@
--- Where nothing is left open a verdict by corners is 1 or 2: by the two sides of the window.
-use mathlib.Core.Path.{_≡_, refl}
-use mathlib.Core.Bool.{true}
-use mathlib.Core.Logic.{_↔_}
-use Prim.Native.Nat.{ℕ, _+_, _*_, _≤_, _<_}
-use native.Mathlib.Nat.{add-zero}
+-- Where nothing is left open a verdict by corners is not 3: each reading stands for one amount, the correction is one number, and hydrogen
+-- is its floor or plays no part.
+use mathlib.Core.Path.{_≡_, refl, sym, ap, _∙_}
+use mathlib.Core.Bool.{Bool, true, false}
+use mathlib.Core.List.{List}
+use Prim.Native.Nat.{ℕ, _+_, _*_}
 use native.Mathlib.Omega.{arith}
+use Rattle.reading.specs.Analytes.{analyteOf}
+use Rattle.reading.proofs.AmountRangeLaws.{range-point}
+use Rattle.record.specs.Record.{readings, readingAt}
+use Rattle.solution.specs.Solutions.{gap, leastAt, greatestAt}
+use Rattle.solution.proofs.SumLaws.{sum-same}
 use Rattle.judge.specs.declared.window.Window.{Window}
-use Rattle.judge.specs.Corners.{Check, decided, partAt, passesOf}
-use Rattle.judge.proofs.Mixing.{points}
+use Rattle.judge.specs.Choices.{Ranges, Bracket}
+use Rattle.judge.specs.Corners.{Part, partAt, Check, decided, endsReached, bracketOf, leastFirst, mostFirst, passesOf}
+use Rattle.judge.specs.Ranges.{correctionWith, rangesOf}
+use Rattle.judge.proofs.FactorLaws.{added}
 use Rattle.judge.proofs.Deciding.{Decided, deciding}
 
--- 1 where Q holds, 2 where it fails
-pub data Settled (Q : Type 0) : ℕ → Type 0 where
-  holds : Q → Settled Q 1
-  fails : (Q → ⊥) → Settled Q 2
+-- of one first sum and one second, which are reached
+not-parted : {w : Window} {x y v : ℕ} → Decided w 0 x x y y v → v ≡ 3 → ⊥
+not-parted (Decided.over l) e = omega arith
+not-parted (Decided.under l) e = omega arith
+not-parted (Decided.parted a b l) e = omega arith
+not-parted (Decided.parted′ a b l) e = omega arith
+not-parted (Decided.within l l′) e = omega arith
 
-module _ {Q : Type 0} where
-  pub settled-1 : {v : ℕ} → Settled Q v → (v ≡ 1) ↔ Q
-  settled-1 (Settled.holds q) = (λ e. q, λ z. refl)
-  settled-1 (Settled.fails n) = (λ e. absurd (omega arith), λ z. absurd (n z))
+still : (w : Window) (b : Bool) (x₀ x₁ y₀ y₁ : ℕ) → b ≡ true → x₀ ≡ x₁ → y₀ ≡ y₁ → decided w b x₀ x₁ y₀ y₁ ≡ 3 → ⊥
+still w b x₀ x₁ y₀ y₁ t x y = rw (t, x, y) (not-parted (deciding w true x₁ x₁ y₁ y₁))
 
-  pub settled-2 : {v : ℕ} → Settled Q v → (v ≡ 2) ↔ (Q → ⊥)
-  settled-2 (Settled.holds q) = (λ e. absurd (omega arith), λ z. absurd (z q))
-  settled-2 (Settled.fails n) = (λ e. n, λ z. refl)
+module _ (s : List ℕ) where
+  abbrev r : Ranges
+  r = rangesOf s
 
-  pub settled-few : {v : ℕ} → Settled Q v → (0 < v) × (v < 3)
-  settled-few (Settled.holds q) = omega arith
-  settled-few (Settled.fails n) = omega arith
+  -- what the record leaves but for hydrogen
+  one-amount : (i : ℕ) → leastAt s i ≡ greatestAt s i
+  one-amount i = let p = range-point (analyteOf (readingAt s i)) in p .0 ∙ sym (p .1)
 
--- a statement may be changed for one that says the same
-pub settled-as : {P Q : Type 0} {v : ℕ} → P ↔ Q → Settled P v → Settled Q v
-settled-as same (Settled.holds p) = Settled.holds (same .0 p)
-settled-as same (Settled.fails n) = Settled.fails (λ q. n (same .1 q))
+  one-part : (p : Part) → partAt p (leastAt s) ≡ partAt p (greatestAt s)
+  one-part p =
+      ap (λ (n : ℕ). p .fixed + n)
+      (sum-same (λ i. p .weight i * leastAt s i) (λ i. p .weight i * greatestAt s i) readings (λ i. ap (λ (n : ℕ). p .weight i * n) (one-amount i)))
 
--- the ratio x / y is in the window
-abbrev pub Within : Window → ℕ → ℕ → Type 0
-Within w x y = (w .high .denominator * x ≤ w .high .numerator * y) × (w .low .numerator * y ≤ w .low .denominator * x)
+  one-factor : (corrected : Bool) → bracketOf corrected r .least ≡ bracketOf corrected r .most
+  unfolding correctionWith
+  one-factor true = refl
+  one-factor false = refl
 
-module _ (w : Window) (x y : ℕ) where
-  settle : {v : ℕ} → Decided w 0 x x y y v → Settled (Within w x y) v
-  settle (Decided.over l) = Settled.fails (λ z. omega (arith, z .0))
-  settle (Decided.under l) = Settled.fails (λ z. omega (arith, z .1))
-  settle (Decided.parted a b l) = absurd (omega arith)
-  settle (Decided.parted′ a b l) = absurd (omega arith)
-  settle (Decided.within l l′) = Settled.holds (l, l′)
-
-  pub settled : Settled (Within w x y) (decided w true x x y y)
-  settled = settle (deciding w true x x y y)
-
--- so at a pH that is a multiple of 100, the amounts being points
-pub whole-settled : (k : Check) (a : ℕ → ℕ) (h : ℕ)
-    → Settled (Within (k .window) (k .hydrogen * h + partAt (k .first) a) (partAt (k .second) a)) (passesOf k (points a h true))
-whole-settled k a h = rw (add-zero h) (settled (k .window) (k .hydrogen * h + partAt (k .first) a) (partAt (k .second) a))
+  pub never-undecided : (k : Check) → endsReached k r ≡ true → passesOf k r ≡ 3 → ⊥
+  never-undecided k t =
+      let f : Bracket = bracketOf (k .corrected) r in
+      let none : gap (endsReached k r) ≡ 0 = ap gap t in
+      let first : leastFirst k r ≡ mostFirst k r =
+      omega (arith, one-part (k .first), added (k .hydrogen) (r .whole), ap (λ (n : ℕ). k .hydrogen * n) none) in
+      still (k .window) (endsReached k r) (f .least * leastFirst k r) (f .most * mostFirst k r)
+      (f .unit * partAt (k .second) (leastAt s)) (f .unit * partAt (k .second) (greatestAt s))
+      t (rw (one-factor (k .corrected), first)) (rw (one-part (k .second)))

@@ -1,12 +1,12 @@
 -- The products of the ratios fit 64 bits where those of the greatest sums do; those of all fields do.
 use mathlib.Core.Path.{_≡_}
 use Prim.Native.Nat.{ℕ, _+_, _*_, _^_, _≤_, _<_}
-use native.Mathlib.Nat.{le-refl, le-trans, lt-of-le-of-lt, mul-comm, mul-le-mul}
+use native.Mathlib.Nat.{le-trans, lt-of-le-of-lt, mul-comm, mul-le-mul}
 use native.Mathlib.Omega.{arith}
 use lib.Dec.{lit<}
 use Rattle.solution.specs.Ions.{cationFactor, anionFactor, conductance, sum}
 use Rattle.solution.specs.declared.Solution.{Solution}
-use Rattle.solution.specs.Solutions.{Sums, sumsIn}
+use Rattle.solution.specs.Solutions.{SumRanges, sumRangesIn}
 use Rattle.solution.specs.Steps.{mostSums, Bounded}
 use Rattle.judge.specs.declared.ratio.Fraction.{Fraction}
 use Rattle.judge.specs.declared.window.Window.{Window}
@@ -52,44 +52,53 @@ module _ (n X Y : ℕ) (firsts : n * X < 2 ^ 64) (seconds : n * Y < 2 ^ 64) wher
             };
       }
 
-module _ (measured : ℕ) (x : Sums) (b : Bounded x) where
-  balance-room : Room (balanceWindow (balanceLimit measured)) (x .leastCations) (x .mostCations) (x .anions) (x .anions)
+-- of each check
+module _ (x : SumRanges) (b : Bounded x) where
+  balance-room : (measured : ℕ) → Room (balanceWindow (balanceLimit measured)) (x .least .cations) (x .most .cations) (x .least .anions) (x .most .anions)
   unfolding sum cationFactor anionFactor balanceLimit
-  balance-room =
+  balance-room measured =
       let small = balance-most measured in
-      room (percentOfMean + balanceLimit 0) (mostSums .mostCations) (mostSums .anions) (lit< tt) (lit< tt)
+      room (percentOfMean + balanceLimit 0) (mostSums .cations) (mostSums .anions) (lit< tt) (lit< tt)
       (record { lowNumerator = omega arith; lowDenominator = omega arith; highNumerator = omega arith; highDenominator = omega arith })
-      (b .cations) (b .mostCations) (le-refl _) (b .anions)
+      (b .ordered .cations) (b .most .cations) (b .ordered .anions) (b .most .anions)
 
-  conductivity-room : Room (conductivityWindow (conductivityLimit measured)) (x .leastCalculated) (x .mostCalculated) (x .measured) (x .measured)
+  conductivity-room : (measured : ℕ)
+      → Room (conductivityWindow (conductivityLimit measured)) (x .least .calculated) (x .most .calculated) (x .least .measured) (x .most .measured)
   unfolding sum cationFactor anionFactor conductance conductivityLimit
-  conductivity-room =
+  conductivity-room measured =
       let small = conductivity-most measured in
-      room (percent + conductivityLimit 0) (mostSums .mostCalculated) (mostSums .measured) (lit< tt) (lit< tt)
+      room (percent + conductivityLimit 0) (mostSums .calculated) (mostSums .measured) (lit< tt) (lit< tt)
       (record { lowNumerator = omega arith; lowDenominator = omega arith; highNumerator = omega arith; highDenominator = omega arith })
-      (b .calculated) (b .mostCalculated) (le-refl _) (b .measured)
+      (b .ordered .calculated) (b .most .calculated) (b .ordered .measured) (b .most .measured)
+
+  ratio-room : Room sodiumChlorideWindow (x .least .sodium) (x .most .sodium) (x .least .chloride) (x .most .chloride)
+  unfolding cationFactor anionFactor
+  ratio-room =
+      room (sodiumChlorideWindow .high .numerator) (mostSums .sodium) (mostSums .chloride) (lit< tt) (lit< tt)
+      (record { lowNumerator = omega arith; lowDenominator = omega arith; highNumerator = omega arith; highDenominator = omega arith })
+      (b .ordered .sodium) (b .most .sodium) (b .ordered .chloride) (b .most .chloride)
+
+  nitrogen-room : Room nitrogenWindow (x .least .mineral) (x .most .mineral) (x .least .total) (x .most .total)
+  nitrogen-room =
+      room (nitrogenWindow .high .numerator) (mostSums .mineral) (mostSums .total) (lit< tt) (lit< tt)
+      (record { lowNumerator = omega arith; lowDenominator = omega arith; highNumerator = omega arith; highDenominator = omega arith })
+      (b .ordered .mineral) (b .most .mineral) (b .ordered .total) (b .most .total)
 
 -- the same of a window and two ratios, as the code makes them
-module _ (measured : ℕ) (x : Solution) (b : Bounded (sumsIn x)) {w : Window} {least most : Fraction} where
-  pub balance-handed : w ≡ balanceWindow (balanceLimit measured) → least ≡ fraction (x .cations .least .0) (x .anions .0)
-      → most ≡ fraction (x .cations .most .0) (x .anions .0) → Room w (least .numerator) (most .numerator) (most .denominator) (least .denominator)
-  balance-handed e f g = rw (e, f, g) (balance-room measured (sumsIn x) b)
+module _ (x : Solution) (b : Bounded (sumRangesIn x)) {w : Window} {least most : Fraction} where
+  pub balance-handed : (measured : ℕ) → w ≡ balanceWindow (balanceLimit measured) → least ≡ fraction (x .least .cations .0) (x .most .anions .0)
+      → most ≡ fraction (x .most .cations .0) (x .least .anions .0) → Room w (least .numerator) (most .numerator) (most .denominator) (least .denominator)
+  balance-handed measured e f g = rw (e, f, g) (balance-room (sumRangesIn x) b measured)
 
-  pub conductivity-handed : w ≡ conductivityWindow (conductivityLimit measured) → least ≡ fraction (x .calculated .least .0) (x .measured .0)
-      → most ≡ fraction (x .calculated .most .0) (x .measured .0) → Room w (least .numerator) (most .numerator) (most .denominator) (least .denominator)
-  conductivity-handed e f g = rw (e, f, g) (conductivity-room measured (sumsIn x) b)
+  pub conductivity-handed : (measured : ℕ) → w ≡ conductivityWindow (conductivityLimit measured)
+      → least ≡ fraction (x .least .calculated .0) (x .most .measured .0)
+      → most ≡ fraction (x .most .calculated .0) (x .least .measured .0) → Room w (least .numerator) (most .numerator) (most .denominator) (least .denominator)
+  conductivity-handed measured e f g = rw (e, f, g) (conductivity-room (sumRangesIn x) b measured)
 
--- the windows of the other two are constant: their sums are bounded together
-module _ {x y : ℕ} where
-  pub ratio-room : x + y ≤ mostSums .sodium + mostSums .chloride → Room sodiumChlorideWindow x x y y
-  unfolding cationFactor anionFactor
-  ratio-room h =
-      room (sodiumChlorideWindow .high .numerator) (mostSums .sodium + mostSums .chloride) (mostSums .sodium + mostSums .chloride) (lit< tt) (lit< tt)
-      (record { lowNumerator = omega arith; lowDenominator = omega arith; highNumerator = omega arith; highDenominator = omega arith })
-      (le-refl _) (omega arith) (le-refl _) (omega arith)
+  pub ratio-handed : w ≡ sodiumChlorideWindow → least ≡ fraction (x .least .ratio .sodium .0) (x .most .ratio .chloride .0)
+      → most ≡ fraction (x .most .ratio .sodium .0) (x .least .ratio .chloride .0) → Room w (least .numerator) (most .numerator) (most .denominator) (least .denominator)
+  ratio-handed e f g = rw (e, f, g) (ratio-room (sumRangesIn x) b)
 
-  pub nitrogen-room : x + y ≤ mostSums .mineral + mostSums .total → Room nitrogenWindow x x y y
-  nitrogen-room h =
-      room (nitrogenWindow .high .numerator) (mostSums .mineral + mostSums .total) (mostSums .mineral + mostSums .total) (lit< tt) (lit< tt)
-      (record { lowNumerator = omega arith; lowDenominator = omega arith; highNumerator = omega arith; highDenominator = omega arith })
-      (le-refl _) (omega arith) (le-refl _) (omega arith)
+  pub nitrogen-handed : w ≡ nitrogenWindow → least ≡ fraction (x .least .nitrogen .mineral .0) (x .most .nitrogen .total .0)
+      → most ≡ fraction (x .most .nitrogen .mineral .0) (x .least .nitrogen .total .0) → Room w (least .numerator) (most .numerator) (most .denominator) (least .denominator)
+  nitrogen-handed e f g = rw (e, f, g) (nitrogen-room (sumRangesIn x) b)

@@ -2,43 +2,47 @@
 -- `judge_tested`, which is handed no words. Where the fields are those of a record, this is the record's own judgement
 -- (`Judgements.judgementOf`), as a law says. A check takes its sums from `solution`, which gives none to fields that no record has: then
 -- no ion is known, and every sum is 0.
-use mathlib.Core.Bool.{true}
+use mathlib.Core.Bool.{true, _&&_}
 use Prim.Native.Nat.{ℕ}
 use Rattle.refusal.specs.Outcome.{Outcome}
 use Rattle.refusal.specs.Outcome.Outcome.{given, refused}
 use Rattle.reading.specs.declared.Analyte.{Analyte}
-use Rattle.reading.specs.Analytes.{present}
+use Rattle.reading.specs.Analytes.{present, rangeOf}
 use Rattle.record.specs.Record.{ammonium, sodium, nitrate, chloride, totalNitrogen, organicCarbon}
 use Rattle.record.specs.Tested.{Fields, TestedTerms, analyteAt}
-use Rattle.solution.specs.Solutions.{Sums}
-use Rattle.solution.specs.ByValue.{sumsBy}
+use Rattle.solution.specs.Solutions.{SumRanges}
+use Rattle.solution.specs.ByValue.{sumRangesBy}
 use Rattle.judge.specs.Verdicts.{applied}
 use Rattle.judge.specs.Corners.{decided}
 use Rattle.judge.specs.IonBalance.{balanceApplies, balanceLimit, balanceWindow}
 use Rattle.judge.specs.Conductivity.{conductivityLimit, conductivityWindow}
-use Rattle.judge.specs.Ratios.{sodiumChlorideBy, nitrogenBy}
+use Rattle.judge.specs.Ratios.{ratioApplies, sodiumChlorideWindow, nitrogenWindow}
 use Rattle.judge.specs.Judgements.{Four}
 
 -- each check by what it looks at, and the sums: kind, organic carbon and measured conductivity; measured conductivity alone; kind,
 -- sodium and chloride; total nitrogen, nitrate and ammonium
-unfoldable pub balanceIn : ℕ → Analyte → ℕ → Sums → ℕ
+unfoldable pub balanceIn : ℕ → Analyte → ℕ → SumRanges → ℕ
 balanceIn kind carbon measured x =
     applied (balanceApplies kind (present (carbon .reading)) (carbon .mass .0)) (x .known)
-    (decided (balanceWindow (balanceLimit measured)) (x .whole) (x .leastCations) (x .mostCations) (x .anions) (x .anions))
+    (decided (balanceWindow (balanceLimit measured)) (x .whole) (x .least .cations) (x .most .cations) (x .least .anions) (x .most .anions))
 
-unfoldable pub conductivityIn : ℕ → Sums → ℕ
+unfoldable pub conductivityIn : ℕ → SumRanges → ℕ
 conductivityIn measured x =
     applied true (x .known)
-    (decided (conductivityWindow (conductivityLimit measured)) (x .whole) (x .leastCalculated) (x .mostCalculated) (x .measured) (x .measured))
+    (decided (conductivityWindow (conductivityLimit measured)) (x .whole) (x .least .calculated) (x .most .calculated) (x .least .measured) (x .most .measured))
 
-unfoldable pub ratioIn : ℕ → Analyte → Analyte → Sums → ℕ
-ratioIn kind na cl x = sodiumChlorideBy kind (present (cl .reading)) (cl .mass .0) (present (na .reading)) (x .sodium) (x .chloride)
+unfoldable pub ratioIn : ℕ → Analyte → Analyte → SumRanges → ℕ
+ratioIn kind na cl x =
+    applied (ratioApplies kind (present (cl .reading)) (rangeOf cl .least)) (present (cl .reading) && present (na .reading))
+    (decided sodiumChlorideWindow true (x .least .sodium) (x .most .sodium) (x .least .chloride) (x .most .chloride))
 
-unfoldable pub nitrogenIn : Analyte → Analyte → Analyte → Sums → ℕ
-nitrogenIn total nitrate ammonium x = nitrogenBy (present (total .reading)) (present (nitrate .reading)) (present (ammonium .reading)) (x .mineral) (x .total)
+unfoldable pub nitrogenIn : Analyte → Analyte → Analyte → SumRanges → ℕ
+nitrogenIn total nitrate ammonium x =
+    applied (present (total .reading)) (present (nitrate .reading) && present (ammonium .reading))
+    (decided nitrogenWindow true (x .least .mineral) (x .most .mineral) (x .least .total) (x .most .total))
 
 -- all four of fields and their sums
-abbrev pub verdictsIn : Fields → Sums → Four
+abbrev pub verdictsIn : Fields → SumRanges → Four
 verdictsIn f x =
     record {
       balance = balanceIn (f .kind) (analyteAt (f .analytes) organicCarbon) (f .conductivity) x;
@@ -49,7 +53,7 @@ verdictsIn f x =
 
 -- by how the record's own tests ended: the verdicts with the floor of hydrogen that they gave, or the number of the test that refused it
 abbrev pub judgedBy : Outcome ℕ → Fields → Outcome Four
-judgedBy (given floor) f = given (verdictsIn f (sumsBy f floor))
+judgedBy (given floor) f = given (verdictsIn f (sumRangesBy f floor))
 judgedBy (refused n) f = refused n
 
 unfoldable pub judgedOf : TestedTerms → Outcome Four

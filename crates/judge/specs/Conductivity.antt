@@ -7,7 +7,7 @@ use lib.IntN.{subℕ}
 use Rattle.refusal.specs.Differences.{apart}
 use Rattle.record.specs.Record.{conductivityOf, alkalinityOf, readings}
 use Rattle.solution.specs.Ions.{conducted, hydrogenConductance, sum}
-use Rattle.solution.specs.Solutions.{ionsKnown, alkalinityConducts, othersConduct, measuredOf}
+use Rattle.solution.specs.Solutions.{ionsKnown, alkalinityConducts, measuredOf}
 use Rattle.judge.specs.declared.window.Window.{Window}
 use Rattle.judge.specs.Classes.{lowConductivity, mediumConductivity, percent}
 use Rattle.judge.specs.Choices.{Ranges, Choice}
@@ -20,13 +20,16 @@ use Rattle.judge.specs.Ranges.{rangesOf}
 unfoldable pub conductivityLimit : ℕ → ℕ
 conductivityLimit measured = cond (leb measured lowConductivity) 30 (cond (leb measured mediumConductivity) 20 10)
 
--- 'CE is the sum over all ten rows': with alkalinity t, of a choice, divisor times
-abbrev pub calculated : ℕ → Choice → ℕ
-calculated t c = hydrogenConductance * c .hydrogen + (alkalinityConducts t * c .divisor + sum (λ i. conducted i * c .amount i) readings)
+-- 'CE is the sum over all ten rows': of a choice, with alkalinity t and divisor times
+abbrev pub othersConduct : ℕ → Choice → ℕ
+othersConduct t c = alkalinityConducts t * c .divisor + sum (λ i. conducted i * c .amount i) readings
 
--- '100 times the difference of CE and CM, its sign dropped, is at most M × CM'
+abbrev pub calculated : ℕ → Choice → ℕ
+calculated t c = hydrogenConductance * c .hydrogen + othersConduct t c
+
+-- '100 times the difference of CE and CM, its sign dropped, is at most M × CM', CE corrected as the choice says
 pub record Conducting (M t CM : ℕ) (c : Choice) : Type 0 where
-  pub holds : percent * apart (calculated t c) (CM * c .divisor) ≤ M * (CM * c .divisor)
+  pub holds : percent * apart (c .correction * calculated t c) (c .correctionDivisor * (CM * c .divisor)) ≤ M * (c .correctionDivisor * (CM * c .divisor))
 
 -- the same as a window of the ratio CE / CM
 abbrev pub conductivityWindow : ℕ → Window
@@ -36,6 +39,7 @@ abbrev pub conductivityCheck : ℕ → ℕ → ℕ → Check
 conductivityCheck M t CM =
     record {
       hydrogen = hydrogenConductance;
+      corrected = true;
       first = record { fixed = alkalinityConducts t; weight = conducted };
       second = record { fixed = CM; weight = λ i. 0 };
       window = conductivityWindow M;
@@ -49,17 +53,13 @@ conductivityOver s r =
 abbrev pub conductivityVerdict : List ℕ → ℕ
 conductivityVerdict s = conductivityOver s (rangesOf s)
 
--- a greatest and a least fraction for H, with E what all but hydrogen conducts:
--- ((100 + M) CM − 100 E) / (100 × 3500) and ((100 − M) CM − 100 E) / (100 × 3500)
-abbrev pub conductivityBounds : ℕ → ℕ → ℕ → Bounds
-conductivityBounds M E CM =
+-- a greatest and a least fraction for H: at a choice of amounts and of a correction Y / D, with E what all but hydrogen conducts, divisor
+-- times, ((100 + M) D CM divisor − 100 Y E) / (100 Y × 3500 divisor) and ((100 − M) D CM divisor − 100 Y E) / (100 Y × 3500 divisor)
+abbrev pub conductivityBounds : ℕ → ℕ → ℕ → Choice → Bounds
+conductivityBounds M t CM c =
     record {
-      most = subℕ ((percent + M) * CM) (percent * E);
-      mostPer = percent * hydrogenConductance;
-      least = subℕ ((percent - M) * CM) (percent * E);
-      leastPer = percent * hydrogenConductance;
+      most = subℕ ((percent + M) * (c .correctionDivisor * (CM * c .divisor))) (percent * (c .correction * othersConduct t c));
+      mostPer = percent * (c .correction * hydrogenConductance) * c .divisor;
+      least = subℕ ((percent - M) * (c .correctionDivisor * (CM * c .divisor))) (percent * (c .correction * othersConduct t c));
+      leastPer = percent * (c .correction * hydrogenConductance) * c .divisor;
     }
-
-abbrev pub conductivityBoundsOf : List ℕ → Bounds
-conductivityBoundsOf s =
-    conductivityBounds (conductivityLimit (conductivityOf s)) (othersConduct s) (measuredOf (conductivityOf s))

@@ -1,5 +1,5 @@
 -- Document 01, 'Ion balance', and document 02 (i) for the DOC line.
-use mathlib.Core.Bool.{Bool, cond, _&&_, _||_}
+use mathlib.Core.Bool.{Bool, false, cond, _&&_, _||_}
 use mathlib.Core.List.{List}
 use Prim.Native.Nat.{ℕ, _+_, _-_, _*_, _≤_}
 use lib.Dec.{leb, ltb, eqb}
@@ -9,7 +9,7 @@ use Rattle.reading.specs.Amounts.{perMilligram}
 use Rattle.reading.specs.Analytes.{present}
 use Rattle.record.specs.Record.{kindOf, conductivityOf, alkalinityOf, readings, readingAt, massAt, organicCarbon}
 use Rattle.solution.specs.Ions.{cationCharge, anionCharge, alkalinityCharge, sum}
-use Rattle.solution.specs.Solutions.{ionsKnown, otherCations, anionsOf}
+use Rattle.solution.specs.Solutions.{ionsKnown}
 use Rattle.judge.specs.declared.window.Window.{Window}
 use Rattle.judge.specs.Classes.{wetOnly, bulk, runoff, mediumConductivity, percentOfMean}
 use Rattle.judge.specs.Choices.{Ranges, Choice}
@@ -34,8 +34,11 @@ unfoldable pub balanceLimit : ℕ → ℕ
 balanceLimit measured = cond (leb measured mediumConductivity) 20 10
 
 -- 'Cat is H plus the next five rows, An the last four', of a choice and divisor times, with alkalinity t
+abbrev pub otherCations : Choice → ℕ
+otherCations c = sum (λ i. cationCharge i * c .amount i) readings
+
 abbrev pub cations : Choice → ℕ
-cations c = c .hydrogen + sum (λ i. cationCharge i * c .amount i) readings
+cations c = c .hydrogen + otherCations c
 
 abbrev pub anions : ℕ → Choice → ℕ
 anions t c = alkalinityCharge t * c .divisor + sum (λ i. anionCharge i * c .amount i) readings
@@ -52,6 +55,7 @@ abbrev pub balanceCheck : ℕ → ℕ → Check
 balanceCheck L t =
     record {
       hydrogen = 1;
+      corrected = false;
       first = record { fixed = 0; weight = cationCharge };
       second = record { fixed = alkalinityCharge t; weight = anionCharge };
       window = balanceWindow L;
@@ -64,17 +68,13 @@ ionBalanceOver s r = applied (balanceAppliesTo s) (ionsKnown s) (passesOf (balan
 abbrev pub ionBalanceOf : List ℕ → ℕ
 ionBalanceOf s = ionBalanceOver s (rangesOf s)
 
--- 'the inequality sets a greatest and a least fraction for H', C the cations but hydrogen and A the anions, in u:
--- ((200 + L) A − (200 − L) C) / (200 − L) and ((200 − L) A − (200 + L) C) / (200 + L)
-abbrev pub balanceBounds : ℕ → ℕ → ℕ → Bounds
-balanceBounds L C A =
+-- 'the inequality sets a greatest and a least fraction for H': at a choice of amounts with C the cations but hydrogen and A the anions,
+-- divisor times, ((200 + L) A − (200 − L) C) / ((200 − L) divisor) and ((200 − L) A − (200 + L) C) / ((200 + L) divisor)
+abbrev pub balanceBounds : ℕ → ℕ → Choice → Bounds
+balanceBounds L t c =
     record {
-      most = subℕ ((percentOfMean + L) * A) ((percentOfMean - L) * C);
-      mostPer = percentOfMean - L;
-      least = subℕ ((percentOfMean - L) * A) ((percentOfMean + L) * C);
-      leastPer = percentOfMean + L;
+      most = subℕ ((percentOfMean + L) * anions t c) ((percentOfMean - L) * otherCations c);
+      mostPer = (percentOfMean - L) * c .divisor;
+      least = subℕ ((percentOfMean - L) * anions t c) ((percentOfMean + L) * otherCations c);
+      leastPer = (percentOfMean + L) * c .divisor;
     }
-
-abbrev pub balanceBoundsOf : List ℕ → Bounds
-balanceBoundsOf s =
-    balanceBounds (balanceLimit (conductivityOf s)) (otherCations s) (anionsOf s)

@@ -18,7 +18,7 @@ ghost use Rattle.reading.specs.Analytes.{present};
 ghost use Rattle.record.specs.Record.{organicCarbon};
 ghost use Rattle.record.specs.Tested.{analyteAt};
 ghost use Rattle.judge.specs.Numbers.{verdictNumber};
-ghost use Rattle.solution.specs.Solutions.{sumsIn};
+ghost use Rattle.solution.specs.Solutions.{sumRangesIn};
 ghost use Rattle.solution.specs.Steps.{Bounded};
 ghost use Rattle.judge.specs.ByValue.{balanceIn};
 ghost use Rattle.judge.specs.Classes.{percentOfMean};
@@ -35,8 +35,8 @@ pub fn of_record(
     measured: u32,
     solution: Solution,
 ) -> Verdict
-    requires { ⌜ Bounded (sumsIn solution) ⌝ }
-    ensures { λ r. ⌜ verdictNumber r ≡ balanceIn kind (analyteAt analytes organicCarbon) measured (sumsIn solution) ⌝ }
+    requires { ⌜ Bounded (sumRangesIn solution) ⌝ }
+    ensures { λ r. ⌜ verdictNumber r ≡ balanceIn kind (analyteAt analytes organicCarbon) measured (sumRangesIn solution) ⌝ }
 {
     let carbon = analytes[record::ORGANIC_CARBON];
     if !applies(kind, carbon) {
@@ -45,8 +45,8 @@ pub fn of_record(
     if !solution.known {
         return Verdict::Missing;
     }
-    let least = ratio::of_charges(solution.cations.least, solution.anions);
-    let most = ratio::of_charges(solution.cations.most, solution.anions);
+    let least = ratio::of_charges(solution.least.cations, solution.most.anions);
+    let most = ratio::of_charges(solution.most.cations, solution.least.anions);
     window::decide(window_at(measured), solution.whole, least, most)
 }
 

@@ -8,13 +8,13 @@ use crate::ratio_check;
 use record::TestedRecord;
 ghost use mathlib.Core.Path.{_≡_};
 ghost use Rattle.record.specs.Tested.{fieldsIn};
-ghost use Rattle.solution.specs.ByValue.{sumsBy};
+ghost use Rattle.solution.specs.ByValue.{sumRangesBy};
 ghost use Rattle.judge.specs.Judgements.{numbersOf};
 ghost use Rattle.judge.specs.ByValue.{verdictsIn};
 
 // By the fields of a record and the floor of hydrogen.
 pub fn verdicts(own: TestedRecord, floor: u64) -> Verdicts
-    ensures { λ r. ⌜ numbersOf r ≡ verdictsIn (fieldsIn own) (sumsBy (fieldsIn own) floor) ⌝ }
+    ensures { λ r. ⌜ numbersOf r ≡ verdictsIn (fieldsIn own) (sumRangesBy (fieldsIn own) floor) ⌝ }
 {
     let solution = solution::of_fields(own, floor);
     let analytes = own.analytes;

@@ -11,7 +11,7 @@ use solution::Solution;
 ghost use mathlib.Core.Path.{_≡_};
 ghost use Prim.Native.Nat.{_≤_};
 ghost use Rattle.judge.specs.Numbers.{verdictNumber};
-ghost use Rattle.solution.specs.Solutions.{sumsIn};
+ghost use Rattle.solution.specs.Solutions.{sumRangesIn};
 ghost use Rattle.solution.specs.Steps.{Bounded};
 ghost use Rattle.judge.specs.ByValue.{conductivityIn};
 ghost use Rattle.judge.specs.Classes.{percent};
@@ -19,14 +19,14 @@ ghost use Rattle.judge.specs.Conductivity.{conductivityLimit, conductivi
 
 // The check of a record, by its measured conductivity in tenths of µS/cm and its solution.
 pub fn of_record(measured: u32, solution: Solution) -> Verdict
-    requires { ⌜ Bounded (sumsIn solution) ⌝ }
-    ensures { λ r. ⌜ verdictNumber r ≡ conductivityIn measured (sumsIn solution) ⌝ }
+    requires { ⌜ Bounded (sumRangesIn solution) ⌝ }
+    ensures { λ r. ⌜ verdictNumber r ≡ conductivityIn measured (sumRangesIn solution) ⌝ }
 {
     if !solution.known {
         return Verdict::Missing;
     }
-    let least = ratio::of_conductivities(solution.calculated.least, solution.measured);
-    let most = ratio::of_conductivities(solution.calculated.most, solution.measured);
+    let least = ratio::of_conductivities(solution.least.calculated, solution.most.measured);
+    let most = ratio::of_conductivities(solution.most.calculated, solution.least.measured);
     window::decide(window_at(measured), solution.whole, least, most)
 }
 

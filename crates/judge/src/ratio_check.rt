@@ -7,24 +7,21 @@ use crate::window;
 use crate::window::Window;
 use reading::Analyte;
 use reading::Reading;
-use solution::Charge;
 use solution::Solution;
 ghost use mathlib.Core.Path.{_≡_};
-ghost use mathlib.Core.Bool.{true};
-ghost use Prim.Native.Nat.{_+_, _≤_};
 ghost use Rattle.record.specs.Record.{sodium, chloride};
 ghost use Rattle.record.specs.Tested.{analyteAt};
 ghost use Rattle.judge.specs.Numbers.{verdictNumber};
-ghost use Rattle.solution.specs.Solutions.{sumsIn};
-ghost use Rattle.solution.specs.Steps.{mostSums, Bounded};
-ghost use Rattle.judge.specs.Corners.{decided};
+ghost use Rattle.solution.specs.Solutions.{sumRangesIn};
+ghost use Rattle.solution.specs.Steps.{Bounded};
 ghost use Rattle.judge.specs.Ratios.{sodiumChlorideWindow};
 ghost use Rattle.judge.specs.ByValue.{ratioIn};
 
-// The check of a record, by its kind, its readings and its solution. A chloride of amount 0 leaves no ratio, whatever sodium is.
+// The check of a record, by its kind, its readings and its solution. A chloride that may be 0 leaves no ratio, whatever
+// sodium is.
 pub fn of_record(kind: u32, analytes: [Analyte; record::READINGS], solution: Solution) -> Verdict
-    requires { ⌜ Bounded (sumsIn solution) ⌝ }
-    ensures { λ r. ⌜ verdictNumber r ≡ ratioIn kind (analyteAt analytes sodium) (analyteAt analytes chloride) (sumsIn solution) ⌝ }
+    requires { ⌜ Bounded (sumRangesIn solution) ⌝ }
+    ensures { λ r. ⌜ verdictNumber r ≡ ratioIn kind (analyteAt analytes sodium) (analyteAt analytes chloride) (sumRangesIn solution) ⌝ }
 {
     if kind > STEMFLOW {
         return Verdict::NotApplicable;
@@ -34,7 +31,8 @@ pub fn of_record(kind: u32, analytes: [Analyte; record::READINGS], solution: Sol
     if let Reading::Missing = reading {
         return Verdict::Missing;
     }
-    if chloride.mass.0 == 0 {
+    let range = chloride.range();
+    if range.least.0 == 0 {
         return Verdict::NotApplicable;
     }
     let sodium = analytes[record::SODIUM];
@@ -42,15 +40,16 @@ pub fn of_record(kind: u32, analytes: [Analyte; record::READINGS], solution: Sol
     if let Reading::Missing = reading {
         return Verdict::Missing;
     }
-    verdict(solution.ratio.sodium, solution.ratio.chloride)
+    let least = ratio::of_charges(solution.least.ratio.sodium, solution.most.ratio.chloride);
+    let most = ratio::of_charges(solution.most.ratio.sodium, solution.least.ratio.chloride);
+    window::decide(window(), true, least, most)
 }
 
 // From a half to one and a half.
-fn verdict(sodium: Charge, chloride: Charge) -> Verdict
-    requires { ⌜ sodium .0 + chloride .0 ≤ mostSums .sodium + mostSums .chloride ⌝ }
-    ensures { λ r. ⌜ verdictNumber r ≡ decided sodiumChlorideWindow true (sodium .0) (sodium .0) (chloride .0) (chloride .0) ⌝ }
+fn window() -> Window
+    ensures { λ r. ⌜ r ≡ sodiumChlorideWindow ⌝ }
 {
-    let window = Window {
+    Window {
         low: Fraction {
             numerator: 1,
             denominator: 2,
@@ -59,7 +58,5 @@ fn verdict(sodium: Charge, chloride: Charge) -> Verdict
             numerator: 3,
             denominator: 2,
         },
-    };
-    let charges = ratio::of_charges(sodium, chloride);
-    window::decide(window, true, charges, charges)
+    }
 }

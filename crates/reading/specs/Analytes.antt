@@ -6,6 +6,7 @@ use Rattle.refusal.specs.Outcome.Outcome.{given, refused}
 use Rattle.reading.specs.declared.Reading.{Reading}
 use Rattle.reading.specs.declared.Reading.the-variants.{Missing, Measured, Below}
 use Rattle.reading.specs.declared.Analyte.{Analyte}
+use Rattle.reading.specs.declared.MassRange.{MassRange}
 use Rattle.reading.specs.Readings.{readingOf}
 use Rattle.reading.specs.Amounts.{Amount, amountOf}
 
@@ -34,3 +35,16 @@ withAmount (refused n) = refused n
 -- the reading that two words of a record hold, with its amount; refused where they hold none
 unfoldable pub analyteFrom : ℕ → ℕ → Outcome Analyte
 analyteFrom mark bits = withAmount (readingOf mark bits)
+
+-- what the checks take a reading for: every amount from a least to a greatest one, in tenths of a µg/L, both included
+pub record AmountRange : Type 0 where
+  pub least : ℕ
+  pub most : ℕ
+
+-- each reading stands for its one amount. `solution` and `judge` never open this definition: they know the laws of `AmountRangeLaws` alone
+unfoldable pub rangeOf : Analyte → AmountRange
+rangeOf a = record { least = a .mass .0; most = a .mass .0 }
+
+-- what was answered
+abbrev pub rangeIn : MassRange → AmountRange
+rangeIn r = record { least = r .least .0; most = r .most .0 }

@@ -10,7 +10,7 @@ ghost use mathlib.Core.Path.{_≡_};
 ghost use Rattle.reading.specs.Answers.{readingOutcome, wordsOutcome, amountOutcome, analyteOutcome};
 ghost use Rattle.reading.specs.Readings.{analysedOf, readingOf, wordsOf, WordLaws};
 ghost use Rattle.reading.specs.Amounts.{amountOf, AmountLaws};
-ghost use Rattle.reading.specs.Analytes.{present, analyteFrom};
+ghost use Rattle.reading.specs.Analytes.{present, analyteFrom, rangeOf, rangeIn};
 
 // The greatest amount, and the scale of amounts, for a crate that says how great sums or limits are.
 pub use rounding::MOST_MASS;
@@ -42,6 +42,12 @@ pub struct Mass(pub u64);
 pub struct Analyte {
     pub reading: Reading,
     pub mass: Mass,
+}
+
+// From the least to the greatest amount that a check takes a reading for.
+pub struct MassRange {
+    pub least: Mass,
+    pub most: Mass,
 }
 
 // A reading, or why there is none.
@@ -180,6 +186,17 @@ impl Analyte {
             Reading::Missing => false,
             Reading::Measured(_) => true,
             Reading::Below(_) => true,
+        }
+    }
+
+    // Every reading stands for its one amount.
+    pub fn range(self) -> MassRange
+        ensures { λ r. ⌜ rangeIn r ≡ rangeOf self ⌝ }
+    {
+        let mass = self.mass;
+        MassRange {
+            least: mass,
+            most: mass,
         }
     }
 }

@@ -1,5 +1,6 @@
 -- The sums of a record's ions: what one ion adds, no ion beyond the eight, and how large they can be.
 use mathlib.Core.Path.{_≡_, refl, sym, ap, ap₂, _∙_}
+use mathlib.Core.Bool.{Bool}
 use mathlib.Core.List.{List}
 use Prim.Native.Nat.{ℕ, _+_, _*_, _^_, _≤_, _<_}
 use native.Mathlib.Nat.{le-refl, mul-le-mul-left, mul-assoc, add-mul}
@@ -15,10 +16,10 @@ use Rattle.solution.specs.declared.ions.Ion.{Ion}
 use Rattle.solution.specs.Ions.{chargeUnit, cationFactor, anionFactor, conductance, cationCharge, anionCharge, conducted, sum}
 use Rattle.solution.specs.ByValue.{amountAt}
 use Rattle.solution.specs.Steps.{Small, RowOf, Adds, mostSums, Fits}
-use Rattle.solution.proofs.SumLaws.{sum-le, sum-part}
+use Rattle.solution.proofs.SumLaws.{sum-part}
 
 -- what an ion conducts by both columns
-pub conducts : (i m : ℕ) → conductance i * (cationCharge i * m + anionCharge i * m) ≡ conducted i * m
+conducts : (i m : ℕ) → conductance i * (cationCharge i * m + anionCharge i * m) ≡ conducted i * m
 conducts i m = ap (λ (x : ℕ). conductance i * x) (sym (add-mul (cationCharge i) (anionCharge i) m)) ∙ sym (mul-assoc (conductance i) (cationCharge i + anionCharge i) m)
 
 -- ---- total nitrogen and organic carbon have no weight
@@ -49,15 +50,12 @@ module _ (w : ℕ → ℕ) where
   abbrev most : ℕ
   most = sum (λ i. w i * mostMass) readings
 
-  pub one-most : (i m : ℕ) → i < readings → m ≤ mostMass → w i * m ≤ most
+  one-most : (i m : ℕ) → i < readings → m ≤ mostMass → w i * m ≤ most
   one-most i m l h = omega (arith, mul-le-mul-left (w i) h, sum-part (λ i. w i * mostMass) (λ i. w i * mostMass) readings (λ i b. le-refl _) i l)
 
-  module _ (analytes : List Analyte) (small : Small analytes) where
-    pub next-most : (i : ℕ) → i < readings → sum (λ k. w k * amountAt analytes k) i + w i * amountAt analytes i ≤ most
-    next-most i l = sum-part (λ k. w k * amountAt analytes k) (λ k. w k * mostMass) readings (λ k b. mul-le-mul-left (w k) (small .most k b)) i l
-
-    pub all-most : sum (λ k. w k * amountAt analytes k) readings ≤ most
-    all-most = sum-le (λ k. w k * amountAt analytes k) (λ k. w k * mostMass) readings (λ k b. mul-le-mul-left (w k) (small .most k b))
+  module _ (greatest : Bool) (analytes : List Analyte) (small : Small analytes) where
+    next-most : (i : ℕ) → i < readings → sum (λ k. w k * amountAt greatest analytes k) i + w i * amountAt greatest analytes i ≤ most
+    next-most i l = sum-part (λ k. w k * amountAt greatest analytes k) (λ k. w k * mostMass) readings (λ k b. mul-le-mul-left (w k) (small .most greatest k b)) i l
 
 -- ---- an amount m of ion i, as the code goes through it: the products by its row fit, and are those of the definition
 charged : (f x y m : ℕ) → y ≡ f → x ≡ chargeUnit * (y * m) → x ≡ chargeUnit * f * m
@@ -102,12 +100,21 @@ module _ (i m : ℕ) (l : i < ions) (small : m ≤ mostMass) {row : Row} (is : R
           }
 
 -- ---- the sums so far with those of the next ion, as the loop adds them
-module _ (analytes : List Analyte) (small : Small analytes) (i : ℕ) (l : i < ions) {ion : Ion} (is : Adds i (amountAt analytes i) ion) where
-  pub cations-next : {x : ℕ} → x ≡ sum (λ k. cationCharge k * amountAt analytes k) i → x + ion .cation .0 < 2 ^ 64
-  cations-next e = omega (arith, most-fits, next-most cationCharge analytes small i (omega arith))
+module _ (greatest : Bool) (analytes : List Analyte) (small : Small analytes) (i : ℕ) (l : i < ions) {m : ℕ} (e : m ≡ amountAt greatest analytes i) where
+  -- its amount is not too large
+  pub next-small : m ≤ mostMass
+  next-small = rw e (small .most greatest i (omega arith))
 
-  pub anions-next : {x : ℕ} → x ≡ sum (λ k. anionCharge k * amountAt analytes k) i → x + ion .anion .0 < 2 ^ 64
-  anions-next e = omega (arith, most-fits, next-most anionCharge analytes small i (omega arith))
+  module _ {ion : Ion} (is : Adds i m ion) where
+    next : (w : ℕ → ℕ) {x y : ℕ} → y ≡ w i * m
+        → x ≡ sum (λ k. w k * amountAt greatest analytes k) i → x + y ≤ sum (λ k. w k * mostMass) readings
+    next w p q = rw (p, e, q) (next-most w greatest analytes small i (omega arith))
 
-  pub conductivity-next : {x : ℕ} → x ≡ sum (λ k. conducted k * amountAt analytes k) i → x + ion .conductivity .0 < 2 ^ 64
-  conductivity-next e = omega (arith, most-fits, next-most conducted analytes small i (omega arith))
+    pub cations-next : {x : ℕ} → x ≡ sum (λ k. cationCharge k * amountAt greatest analytes k) i → x + ion .cation .0 < 2 ^ 64
+    cations-next q = omega (arith, most-fits, next cationCharge (is .cation) q)
+
+    pub anions-next : {x : ℕ} → x ≡ sum (λ k. anionCharge k * amountAt greatest analytes k) i → x + ion .anion .0 < 2 ^ 64
+    anions-next q = omega (arith, most-fits, next anionCharge (is .anion) q)
+
+    pub conductivity-next : {x : ℕ} → x ≡ sum (λ k. conducted k * amountAt greatest analytes k) i → x + ion .conductivity .0 < 2 ^ 64
+    conductivity-next q = omega (arith, most-fits, next conducted (is .conductivity) q)

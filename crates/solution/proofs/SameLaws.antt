@@ -1,15 +1,11 @@
--- Sums are the same where each of them is.
+-- Sums are the same where each of them is, and ranges of sums where both ends are.
 use mathlib.Core.Path.{_≡_}
-use Rattle.solution.specs.Solutions.{Sums}
+use Rattle.solution.specs.Solutions.{Sums, SumRanges}
 
 pub record Same (x y : Sums) : Type 0 where
-  pub known : x .known ≡ y .known
-  pub whole : x .whole ≡ y .whole
-  pub leastCations : x .leastCations ≡ y .leastCations
-  pub mostCations : x .mostCations ≡ y .mostCations
+  pub cations : x .cations ≡ y .cations
   pub anions : x .anions ≡ y .anions
-  pub leastCalculated : x .leastCalculated ≡ y .leastCalculated
-  pub mostCalculated : x .mostCalculated ≡ y .mostCalculated
+  pub calculated : x .calculated ≡ y .calculated
   pub measured : x .measured ≡ y .measured
   pub sodium : x .sodium ≡ y .sodium
   pub chloride : x .chloride ≡ y .chloride
@@ -20,16 +16,15 @@ pub same-sums : {x y : Sums} → Same x y → x ≡ y
 same-sums s =
     λ i.
     record {
-      known = s .known i;
-      whole = s .whole i;
-      leastCations = s .leastCations i;
-      mostCations = s .mostCations i;
+      cations = s .cations i;
       anions = s .anions i;
-      leastCalculated = s .leastCalculated i;
-      mostCalculated = s .mostCalculated i;
+      calculated = s .calculated i;
       measured = s .measured i;
       sodium = s .sodium i;
       chloride = s .chloride i;
       mineral = s .mineral i;
       total = s .total i;
     }
+
+pub same-ranges : {x y : SumRanges} → x .known ≡ y .known → x .whole ≡ y .whole → x .least ≡ y .least → x .most ≡ y .most → x ≡ y
+same-ranges a b c d = λ i. record { known = a i; whole = b i; least = c i; most = d i }

@@ -1,58 +1,62 @@
 -- For the judge: the sums of fields are those of the record that they were read from, and no sums of any fields are large.
 use mathlib.Core.Path.{_≡_, ap, ap₂, sym, _∙_}
+use mathlib.Core.Bool.{Bool, true, false}
 use mathlib.Core.List.{List}
 use Prim.Native.Nat.{ℕ, _+_, _*_}
 use native.Mathlib.Omega.{arith}
 use Rattle.hydrogen.specs.Floors.{isWhole, floorAt}
 use Rattle.hydrogen.proofs.Laws.{floor-most}
+use Rattle.reading.specs.Analytes.{analyteOf, rangeOf}
 use Rattle.record.specs.declared.TestedRecord.{TestedRecord}
-use Rattle.record.specs.Record.{ammonium, sodium, nitrate, chloride, totalNitrogen, phOf}
+use Rattle.record.specs.Record.{ammonium, sodium, nitrate, chloride, totalNitrogen, phOf, conductivityOf, alkalinityOf, readingAt}
 use Rattle.record.specs.Tested.{Fields, Holds, fieldsIn}
 use Rattle.record.proofs.AcceptedLaws.{Valid}
 use Rattle.solution.specs.Ions.{cationCharge, anionCharge, conducted, alkalinityCharge, hydrogenConductance}
-use Rattle.solution.specs.Solutions.{gap, alkalinityConducts, measuredOf, sumsOf}
-use Rattle.solution.specs.ByValue.{sumsHeld, sumsBy}
+use Rattle.solution.specs.Solutions.{gap, alkalinityConducts, measuredOf, sumsWith, sumRangesOf}
+use Rattle.solution.specs.ByValue.{endOf, sumsHeld, sumRangesHeld, sumRangesBy}
 use Rattle.solution.specs.Steps.{Ranged, Bounded}
-use Rattle.solution.proofs.HeldLaws.{held-known, held-sum, held-amount, held-small}
-use Rattle.solution.proofs.RangeLaws.{in-ranges, sums-held}
-use Rattle.solution.proofs.SameLaws.{same-sums}
+use Rattle.solution.proofs.HeldLaws.{held-known, held-sum, held-end, held-small}
+use Rattle.solution.proofs.RangeLaws.{in-ranges, ranges-held}
+use Rattle.solution.proofs.SameLaws.{same-sums, same-ranges}
 use Rattle.solution.proofs.BoundLaws as bounds
 
 -- of any fields
-pub sums-bounded : (f : Fields) (floor : ℕ) → Bounded (sumsBy f floor)
-sums-bounded f floor = bounds.sums-bounded f floor
+pub ranges-bounded : (f : Fields) (floor : ℕ) → Bounded (sumRangesBy f floor)
+ranges-bounded f floor = bounds.ranges-bounded f floor
 
 module _ (s : List ℕ) (own : TestedRecord) (floor : ℕ) (v : Valid s) (h : Holds s own) (f : floor ≡ floorAt (phOf s)) where
   -- an accepted record is within its ranges
-  own-ranges : Ranged (fieldsIn own) floor
+  own-ranges : Ranged (fieldsIn own) (floor + 1)
   own-ranges =
       record {
-        hydrogen = rw f (floor-most (phOf s) (v .ph .0) (v .ph .1));
+        hydrogen = rw f (omega (arith, floor-most (phOf s) (v .ph .0) (v .ph .1)));
         measured = rw (h .conductivity) (v .measured .1);
         alkalinity = rw (h .alkalinity) (v .alkalinity);
         small = held-small s own h;
       }
 
-  own-sums : sumsHeld (fieldsIn own) floor ≡ sumsOf s
-  own-sums =
-      let above = ap (λ (p : ℕ). gap (isWhole p)) (h .ph) in
-      let C = held-sum s own h cationCharge in
-      let E = ap₂ (λ (x y : ℕ). x + y) (ap alkalinityConducts (h .alkalinity)) (held-sum s own h conducted) in
+  -- at either end
+  own-sums : (greatest : Bool) {x y : ℕ} → x ≡ y
+      → sumsHeld (fieldsIn own) greatest x ≡ sumsWith (λ i. endOf greatest (rangeOf (analyteOf (readingAt s i)))) y (alkalinityOf s) (conductivityOf s)
+  own-sums greatest e =
+      let amount = held-end s own h greatest in
+      let E = ap₂ (λ (x y : ℕ). x + y) (ap alkalinityConducts (h .alkalinity)) (held-sum s own h greatest conducted) in
       same-sums
       (record {
-        known = held-known s own h;
-        whole = ap isWhole (h .ph);
-        leastCations = ap₂ (λ (x y : ℕ). x + y) f C;
-        mostCations = ap₂ (λ (x y : ℕ). x + y) (ap₂ (λ (x y : ℕ). x + y) f above) C;
-        anions = ap₂ (λ (x y : ℕ). x + y) (ap alkalinityCharge (h .alkalinity)) (held-sum s own h anionCharge);
-        leastCalculated = ap₂ (λ (x y : ℕ). hydrogenConductance * x + y) f E;
-        mostCalculated = ap₂ (λ (x y : ℕ). hydrogenConductance * x + y) (ap₂ (λ (x y : ℕ). x + y) f above) E;
+        cations = ap₂ (λ (x y : ℕ). x + y) e (held-sum s own h greatest cationCharge);
+        anions = ap₂ (λ (x y : ℕ). x + y) (ap alkalinityCharge (h .alkalinity)) (held-sum s own h greatest anionCharge);
+        calculated = ap₂ (λ (x y : ℕ). hydrogenConductance * x + y) e E;
         measured = ap measuredOf (h .conductivity);
-        sodium = ap (λ (n : ℕ). cationCharge sodium * n) (held-amount s own h sodium (omega arith));
-        chloride = ap (λ (n : ℕ). anionCharge chloride * n) (held-amount s own h chloride (omega arith));
-        mineral = ap₂ (λ (x y : ℕ). x + y) (held-amount s own h nitrate (omega arith)) (held-amount s own h ammonium (omega arith));
-        total = held-amount s own h totalNitrogen (omega arith);
+        sodium = ap (λ (n : ℕ). cationCharge sodium * n) (amount sodium (omega arith));
+        chloride = ap (λ (n : ℕ). anionCharge chloride * n) (amount chloride (omega arith));
+        mineral = ap₂ (λ (x y : ℕ). x + y) (amount nitrate (omega arith)) (amount ammonium (omega arith));
+        total = amount totalNitrogen (omega arith);
       })
 
-  pub fields-give : sumsBy (fieldsIn own) floor ≡ sumsOf s
-  fields-give = sym (sums-held (fieldsIn own) floor (in-ranges (fieldsIn own) floor own-ranges)) ∙ own-sums
+  own-both : sumRangesHeld (fieldsIn own) floor ≡ sumRangesOf s
+  own-both =
+      let whole = ap isWhole (h .ph) in
+      same-ranges (held-known s own h) whole (own-sums false f) (own-sums true (ap₂ (λ (x y : ℕ). x + y) f (ap gap whole)))
+
+  pub fields-give : sumRangesBy (fieldsIn own) floor ≡ sumRangesOf s
+  fields-give = sym (ranges-held (fieldsIn own) floor (in-ranges (fieldsIn own) floor own-ranges)) ∙ own-both

@@ -3,15 +3,24 @@ use mathlib.Core.Bool.{Bool, cond}
 use mathlib.Core.List.{List}
 use Prim.Native.Nat.{ℕ, _+_, _*_, _^_}
 use Rattle.hydrogen.specs.Floors.{isWhole, floorAt}
-use Rattle.reading.specs.Analytes.{present}
-use Rattle.record.specs.Record.{ions, readings, ammonium, sodium, nitrate, chloride, totalNitrogen, phOf, conductivityOf, alkalinityOf, readingAt, massAt, allBelow}
+use Rattle.reading.specs.Analytes.{present, analyteOf, rangeOf}
+use Rattle.record.specs.Record.{ions, readings, ammonium, sodium, nitrate, chloride, totalNitrogen, phOf, conductivityOf, alkalinityOf, readingAt, allBelow}
+use Rattle.solution.specs.declared.Sums.{Sums as SumsHeld}
 use Rattle.solution.specs.declared.Solution.{Solution}
 use Rattle.solution.specs.Ions.{cationCharge, anionCharge, conducted, hydrogenConductance, alkalinityCharge, alkalinityConductance, sum}
+
+-- ---- what a record leaves open: each amount from its least to its greatest, and hydrogen
+abbrev pub leastAt : List ℕ → ℕ → ℕ
+leastAt s i = rangeOf (analyteOf (readingAt s i)) .least
+
+abbrev pub greatestAt : List ℕ → ℕ → ℕ
+greatestAt s i = rangeOf (analyteOf (readingAt s i)) .most
 
 -- how far hydrogen may be above its floor, in u: 0 where it is its floor, at a whole pH, else up to 1
 abbrev pub gap : Bool → ℕ
 gap whole = cond whole 0 1
 
+-- ---- the sums
 -- 'CE is the sum over all ten rows': what alkalinity t conducts
 abbrev pub alkalinityConducts : ℕ → ℕ
 alkalinityConducts t = alkalinityConductance * alkalinityCharge t
@@ -23,36 +32,26 @@ measuredUnit = 10 ^ 12
 abbrev pub measuredOf : ℕ → ℕ
 measuredOf measured = measured * measuredUnit
 
--- whether no ion is missing and whether hydrogen is its floor; and the sums, those with hydrogen in them at its floor and with the
--- gap above it
+-- every sum that a check compares with another
 pub record Sums : Type 0 where
-  pub known : Bool
-  pub whole : Bool
-  pub leastCations : ℕ
-  pub mostCations : ℕ
+  pub cations : ℕ
   pub anions : ℕ
-  pub leastCalculated : ℕ
-  pub mostCalculated : ℕ
+  pub calculated : ℕ
   pub measured : ℕ
   pub sodium : ℕ
   pub chloride : ℕ
   pub mineral : ℕ
   pub total : ℕ
 
--- by which readings are there, their amounts, the floor of hydrogen and whether hydrogen is it, and alkalinity and measured
--- conductivity in tenths.
+-- by the amounts, hydrogen in u, and alkalinity and measured conductivity in tenths.
 -- 'Cat is H plus the next five rows, An the last four', 'CE is the sum over all ten rows, CM the measured value', 'the ratio of charges'
 -- of Na and Cl, 'TN is at least NO3-N plus NH4-N, in amounts'
-abbrev pub sumsWith : (ℕ → Bool) → (ℕ → ℕ) → ℕ → Bool → ℕ → ℕ → Sums
-sumsWith there amount floor whole t m =
+abbrev pub sumsWith : (ℕ → ℕ) → ℕ → ℕ → ℕ → Sums
+sumsWith amount hydrogen t m =
     record {
-      known = allBelow there ions;
-      whole = whole;
-      leastCations = floor + sum (λ i. cationCharge i * amount i) readings;
-      mostCations = floor + gap whole + sum (λ i. cationCharge i * amount i) readings;
+      cations = hydrogen + sum (λ i. cationCharge i * amount i) readings;
       anions = alkalinityCharge t + sum (λ i. anionCharge i * amount i) readings;
-      leastCalculated = hydrogenConductance * floor + (alkalinityConducts t + sum (λ i. conducted i * amount i) readings);
-      mostCalculated = hydrogenConductance * (floor + gap whole) + (alkalinityConducts t + sum (λ i. conducted i * amount i) readings);
+      calculated = hydrogenConductance * hydrogen + (alkalinityConducts t + sum (λ i. conducted i * amount i) readings);
       measured = measuredOf m;
       sodium = cationCharge sodium * amount sodium;
       chloride = anionCharge chloride * amount chloride;
@@ -60,47 +59,47 @@ sumsWith there amount floor whole t m =
       total = amount totalNitrogen;
     }
 
+-- whether no ion is missing and whether hydrogen is its floor; and each sum at its least, with the least amounts and hydrogen at its
+-- floor, and at its greatest, with the greatest amounts and hydrogen with the gap above it
+pub record SumRanges : Type 0 where
+  pub known : Bool
+  pub whole : Bool
+  pub least : Sums
+  pub most : Sums
+
+-- by which readings are there, their least and greatest amounts, the floor of hydrogen and whether hydrogen is it, and alkalinity and
+-- measured conductivity in tenths
+abbrev pub sumRangesWith : (ℕ → Bool) → (ℕ → ℕ) → (ℕ → ℕ) → ℕ → Bool → ℕ → ℕ → SumRanges
+sumRangesWith there least greatest floor whole t m =
+    record {
+      known = allBelow there ions;
+      whole = whole;
+      least = sumsWith least floor t m;
+      most = sumsWith greatest (floor + gap whole) t m;
+    }
+
 -- of a record
-abbrev pub sumsOf : List ℕ → Sums
-sumsOf s = sumsWith (λ i. present (readingAt s i)) (massAt s) (floorAt (phOf s)) (isWhole (phOf s)) (alkalinityOf s) (conductivityOf s)
+abbrev pub sumRangesOf : List ℕ → SumRanges
+sumRangesOf s =
+    sumRangesWith (λ i. present (readingAt s i)) (leastAt s) (greatestAt s) (floorAt (phOf s)) (isWhole (phOf s)) (alkalinityOf s) (conductivityOf s)
 
 -- none of 'the eight ions' is missing
 abbrev pub ionsKnown : List ℕ → Bool
-ionsKnown s = sumsOf s .known
+ionsKnown s = sumRangesOf s .known
 
--- Cat without H, An, what all rows but hydrogen conduct, the charges of 'the ratio of charges', and 'NO3-N plus NH4-N'
-abbrev pub otherCations : List ℕ → ℕ
-otherCations s = sum (λ i. cationCharge i * massAt s i) readings
-
-abbrev pub anionsOf : List ℕ → ℕ
-anionsOf s = sumsOf s .anions
-
-abbrev pub othersConduct : List ℕ → ℕ
-othersConduct s = alkalinityConducts (alkalinityOf s) + sum (λ i. conducted i * massAt s i) readings
-
-abbrev pub sodiumCharge : List ℕ → ℕ
-sodiumCharge s = sumsOf s .sodium
-
-abbrev pub chlorideCharge : List ℕ → ℕ
-chlorideCharge s = sumsOf s .chloride
-
-abbrev pub mineralNitrogen : List ℕ → ℕ
-mineralNitrogen s = sumsOf s .mineral
-
--- what was answered
-abbrev pub sumsIn : Solution → Sums
+-- ---- what was answered
+abbrev pub sumsIn : SumsHeld → Sums
 sumsIn x =
     record {
-      known = x .known;
-      whole = x .whole;
-      leastCations = x .cations .least .0;
-      mostCations = x .cations .most .0;
+      cations = x .cations .0;
       anions = x .anions .0;
-      leastCalculated = x .calculated .least .0;
-      mostCalculated = x .calculated .most .0;
+      calculated = x .calculated .0;
       measured = x .measured .0;
       sodium = x .ratio .sodium .0;
       chloride = x .ratio .chloride .0;
       mineral = x .nitrogen .mineral .0;
       total = x .nitrogen .total .0;
     }
+
+abbrev pub sumRangesIn : Solution → SumRanges
+sumRangesIn x = record { known = x .known; whole = x .whole; least = sumsIn (x .least); most = sumsIn (x .most) }

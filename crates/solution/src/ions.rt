@@ -3,14 +3,16 @@
 use crate::Charge;
 use crate::Conductivity;
 use crate::SodiumChloride;
+use crate::amounts;
 use reading::Analyte;
 use reading::Mass;
 use record::IONS;
 ghost use mathlib.Core.Path.{_≡_};
 ghost use Prim.Native.Nat.{_+_, _*_, _^_, _≤_, _<_};
 ghost use Rattle.reading.specs.Amounts.{mostMass};
-ghost use Rattle.record.specs.Record.{ions};
+ghost use Rattle.record.specs.Record.{ions, allBelow};
 ghost use Rattle.solution.specs.Ions.{chargeUnit};
+ghost use Rattle.solution.specs.ByValue.{thereAt};
 ghost use Rattle.solution.specs.Steps.{Small, RowOf, Adds, IonSums, RatioOf};
 
 // Charge in 10^3 u for each tenth of a µg/L: a column for the cations, one for the anions.
@@ -40,9 +42,8 @@ pub struct Ion {
     pub conductivity: Conductivity,
 }
 
-// The sums of the eight ions, and whether none of them is missing.
+// The sums of the eight ions.
 pub struct Eight {
-    pub known: bool,
     pub cations: Charge,
     pub anions: Charge,
     pub conductivity: Conductivity,
@@ -110,43 +111,57 @@ fn of_ion(ion: usize, m: Mass) -> Ion
     }
 }
 
-// Of a record's readings. The loop has no way out: a missing ion has no amount, and adds nothing.
-pub fn sums_of(analytes: [Analyte; record::READINGS]) -> Eight
+// Of a record's readings at one end. The loop has no way out: a missing ion has no amount, and adds nothing.
+pub fn sums_of(analytes: [Analyte; record::READINGS], greatest: bool) -> Eight
     requires { ⌜ Small analytes ⌝ }
-    ensures { λ r. ⌜ IonSums analytes r ⌝ }
+    ensures { λ r. ⌜ IonSums greatest analytes r ⌝ }
 {
-    let mut known = true;
     let mut cations = Charge(0);
     let mut anions = Charge(0);
     let mut conductivity = Conductivity(0);
     let mut i: usize = 0;
     while i < IONS {
-        let analyte = analytes[i];
-        known = known & analyte.is_present();
-        let ion = of_ion(i, analyte.mass);
+        let ion = of_ion(i, amounts::at_end(analytes, i, greatest));
         cations = cations.plus(ion.cation);
         anions = anions.plus(ion.anion);
         conductivity = conductivity.plus(ion.conductivity);
         i += 1;
     }
     Eight {
-        known,
         cations,
         anions,
         conductivity,
     }
 }
 
-// The two charges of the sodium/chloride ratio.
-pub fn sodium_chloride(analytes: [Analyte; record::READINGS]) -> SodiumChloride
-    requires { ⌜ Small analytes ⌝ }
-    ensures { λ r. ⌜ RatioOf analytes r ⌝ }
+// Whether none of the eight is missing.
+pub fn are_present(analytes: [Analyte; record::READINGS]) -> bool
+    ensures { λ r. ⌜ r ≡ allBelow (thereAt analytes) ions ⌝ }
 {
-    let sodium = analytes[record::SODIUM];
-    let chloride = analytes[record::CHLORIDE];
-    let cation = of_ion(record::SODIUM, sodium.mass);
-    let anion = of_ion(record::CHLORIDE, chloride.mass);
-    let sodium = cation.cation;
-    let chloride = anion.anion;
+    let mut known = true;
+    let mut i: usize = 0;
+    while i < IONS {
+        let analyte = analytes[i];
+        known = known & analyte.is_present();
+        i += 1;
+    }
+    known
+}
+
+// The two charges of the sodium/chloride ratio at one end.
+pub fn sodium_chloride(analytes: [Analyte; record::READINGS], greatest: bool) -> SodiumChloride
+    requires { ⌜ Small analytes ⌝ }
+    ensures { λ r. ⌜ RatioOf greatest analytes r ⌝ }
+{
+    let sodium = of_ion(
+        record::SODIUM,
+        amounts::at_end(analytes, record::SODIUM, greatest),
+    );
+    let chloride = of_ion(
+        record::CHLORIDE,
+        amounts::at_end(analytes, record::CHLORIDE, greatest),
+    );
+    let sodium = sodium.cation;
+    let chloride = chloride.anion;
     SodiumChloride { sodium, chloride }
 }

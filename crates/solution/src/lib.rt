@@ -1,32 +1,23 @@
 // What a water holds in solution by its analysis (document 01, 'Charge and conductance', and 02 (i)): the charges and the
 // conductivities of the table's ten rows, added up to the sums that the checks compare.
+mod amounts;
+mod both_ends;
 mod ions;
+mod one_end;
 mod ranges;
-mod sums;
 
 use reading::Mass;
 use record::TestedRecord;
 ghost use mathlib.Core.Path.{_≡_};
 ghost use Rattle.record.specs.Tested.{fieldsIn};
-ghost use Rattle.solution.specs.Solutions.{sumsIn};
-ghost use Rattle.solution.specs.ByValue.{sumsBy};
+ghost use Rattle.solution.specs.Solutions.{sumRangesIn};
+ghost use Rattle.solution.specs.ByValue.{sumRangesBy};
 
 // A charge in u, which is 10^-9 µeq/L, held apart from mass and conductivity by its type.
 pub struct Charge(pub u64);
 
 // A conductivity in 10^-13 µS/cm, held apart from mass and charge by its type.
 pub struct Conductivity(pub u64);
-
-// A sum with hydrogen in it, of which only its neighbouring whole numbers of u are known: from its least value to its greatest.
-pub struct Charges {
-    pub least: Charge,
-    pub most: Charge,
-}
-
-pub struct Conductivities {
-    pub least: Conductivity,
-    pub most: Conductivity,
-}
 
 // The two charges of the sodium/chloride ratio.
 pub struct SodiumChloride {
@@ -40,28 +31,34 @@ pub struct Nitrogen {
     pub total: Mass,
 }
 
-// The sums of a record.
-pub struct Solution {
-    // Whether none of the eight ions is missing.
-    pub known: bool,
-    // Whether hydrogen is its floor: at a whole pH. Else it is strictly between its floor and the next whole number of u.
-    pub whole: bool,
+// Every sum that a check compares with another.
+pub struct Sums {
     // Cat, An, CE and CM of document 01.
-    pub cations: Charges,
+    pub cations: Charge,
     pub anions: Charge,
-    pub calculated: Conductivities,
+    pub calculated: Conductivity,
     pub measured: Conductivity,
     pub ratio: SodiumChloride,
     pub nitrogen: Nitrogen,
 }
 
+// What a record holds in solution: of each sum its least and its greatest value.
+pub struct Solution {
+    // Whether none of the eight ions is missing.
+    pub known: bool,
+    // Whether hydrogen is its floor: at a whole pH. Else it is strictly between its floor and the next whole number of u.
+    pub whole: bool,
+    pub least: Sums,
+    pub most: Sums,
+}
+
 // The sums of a record, by its fields and the floor of hydrogen at its pH. Fields that no accepted record has give no sums: so
 // none can be too large for its type.
 pub fn of_fields(own: TestedRecord, floor: u64) -> Solution
-    ensures { λ r. ⌜ sumsIn r ≡ sumsBy (fieldsIn own) floor ⌝ }
+    ensures { λ r. ⌜ sumRangesIn r ≡ sumRangesBy (fieldsIn own) floor ⌝ }
 {
     if !ranges::hold(own, floor) {
-        return sums::none();
+        return both_ends::none();
     }
-    sums::of_ranged(own, floor)
+    both_ends::of_ranged(own, floor)
 }

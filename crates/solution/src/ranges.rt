@@ -27,7 +27,8 @@ fn are_small(analytes: [Analyte; READINGS]) -> bool
     let mut i: usize = 0;
     while i < READINGS {
         let analyte = analytes[i];
-        small = small & (analyte.mass.0 <= MOST_MASS);
+        let range = analyte.range();
+        small = small & (range.most.0 <= MOST_MASS);
         i += 1;
     }
     small

@@ -15,7 +15,9 @@ returns-2 c = let kind = c .before .before in
     balance-missing _ _ _ _ (passed (kind .before .applies .ensures) (kind .if1 .left)) (not-true (kind .before .before .before .args .solution .known) (c .if2 .taken))
 
 decide-requires : tie.Need-decide-requires
-decide-requires c κs = search balance-handed
+decide-requires c κs = let made = c .before in
+    balance-handed _ (made .before .before .before .before .before .before .before .pre) _
+    (c .window-at .ensures) (made .before .of-charges .ensures) (made .of-charges2 .ensures)
 
 returns-3 : tie.Need-returns-3
 returns-3 c = let made = c .before .before in

@@ -10,7 +10,9 @@ returns : tie.Need-returns
 returns c = conductivity-missing _ _ (not-true (c .before .before .args .solution .known) (c .if1 .taken))
 
 decide-requires : tie.Need-decide-requires
-decide-requires c κs = search conductivity-handed
+decide-requires c κs = let made = c .before in
+    conductivity-handed _ (made .before .before .before .before .pre) _
+    (c .window-at .ensures) (made .before .of-conductivities .ensures) (made .of-conductivities2 .ensures)
 
 returns-2 : tie.Need-returns-2
 returns-2 c = let made = c .before .before in

@@ -1,5 +1,6 @@
--- Each return is what the definition gives by the tests on the way.
+-- Each return is what the definition gives by the tests on the way, and there is room for the ratios.
 use Rattle.judge.proofs.CheckWays.{no-total, no-nitrate, no-ammonium, nitrogen-decided}
+use Rattle.judge.proofs.RoomLaws.{nitrogen-handed}
 use borrow.Author.Needs.{needs}
 use Rattle.judge.proofs.nitrogen_check.of_record.Statement.{statement}
 use Rattle.judge.proofs.nitrogen_check.of_record.Tie as tie
@@ -14,10 +15,18 @@ returns-3 : tie.Need-returns-3
 returns-3 c = let nitrate = c .before .before .before in
     no-ammonium _ _ _ _ (nitrate .before .before .match .keys2) (nitrate .match2 .keys2) (c .enum-told3 .given .1)
 
+decide-requires : tie.Need-decide-requires
+decide-requires c κs = let made = c .before in
+    let nitrate = made .before .before .before .before in
+    nitrogen-handed _ (nitrate .before .before .before .before .pre) (c .window .ensures) (made .before .of-masses .ensures) (made .of-masses2 .ensures)
+
 returns-4 : tie.Need-returns-4
-returns-4 c = let ammonium = c .before in
+returns-4 c = let window = c .before in
+    let made = window .before in
+    let ammonium = made .before .before in
     let nitrate = ammonium .before .before in
-    nitrogen-decided _ _ _ _ (nitrate .before .before .match .keys2) (nitrate .match2 .keys2) (ammonium .match3 .keys2) (c .verdict .ensures)
+    nitrogen-decided _ _ _ _ (nitrate .before .before .match .keys2) (nitrate .match2 .keys2) (ammonium .match3 .keys2)
+    (rw (window .window .ensures, made .of-masses2 .ensures, made .before .of-masses .ensures) at (c .decide .ensures))
 
 pub of-record-spec : {M : Type 1} → statement M
 of-record-spec =
@@ -33,4 +42,7 @@ of-record-spec =
     (λ c. search needs)
     returns-3
     (λ c κs. search needs)
+    (λ c κs. search needs)
+    (λ c κs. search needs)
+    decide-requires
     returns-4)

@@ -1,12 +1,13 @@
--- Whether all amounts so far are small.
-use mathlib.Core.Path.{_≡_, sym, ap, _∙_}
-use mathlib.Core.Bool.{Bool, _&&_}
+-- Whether all greatest amounts so far are small.
+use mathlib.Core.Path.{_≡_, sym, ap, ap₂, _∙_}
+use mathlib.Core.Bool.{Bool, true, _&&_}
 use mathlib.Core.List.{List}
 use Prim.Native.Nat.{ℕ, _-_, _≤_}
 use native.Mathlib.Omega.{arith}
 use lib.Dec.{leb}
 use Rattle.reading.specs.declared.Analyte.{Analyte}
 use Rattle.reading.specs.Amounts.{mostMass}
+use Rattle.reading.specs.Analytes.{AmountRange}
 use Rattle.record.specs.Record.{readings, allBelow}
 use Rattle.record.proofs.AllBelow.{all-none, all-next}
 use Rattle.solution.specs.ByValue.{amountAt, areSmall}
@@ -15,7 +16,7 @@ use Rattle.solution.proofs.ranges.are_small.Statement.{statement}
 use Rattle.solution.proofs.ranges.are_small.Tie as tie
 
 abbrev small-at : List Analyte → ℕ → Bool
-small-at analytes i = leb (amountAt analytes i) mostMass
+small-at analytes i = leb (amountAt true analytes i) mostMass
 
 abbrev Inv-loop : tie.InvT-loop
 Inv-loop analytes small₀ i₀ small i = (i ≤ readings) × (small ≡ allBelow (small-at analytes) i)
@@ -27,9 +28,10 @@ loop-holds : tie.Need-loop-holds Inv-loop μ-loop
 loop-holds c = (search needs, sym (all-none _))
 
 loop-again : tie.Need-loop-again Inv-loop μ-loop
-loop-again c = let at = c .before .before .before .loop in
-    let analytes = c .before .before .before .before .args .t1 in
-    (search needs, ap (λ (b : Bool). b && small-at analytes (at .i)) (at .inv .1) ∙ sym (all-next (small-at analytes) (at .i)))
+loop-again c = let at = c .before .before .before .before .loop in
+    let analytes = c .before .before .before .before .before .args .t1 in
+    let most = ap (λ (r : AmountRange). leb (r .most) mostMass) (c .before .range .ensures) in
+    (search needs, ap₂ (λ (a b : Bool). a && b) (at .inv .1) most ∙ sym (all-next (small-at analytes) (at .i)))
 
 returns : tie.Need-returns Inv-loop μ-loop
 unfolding areSmall
@@ -44,6 +46,7 @@ are-small-spec =
     loop-holds
     (λ c. search needs)
     (λ c. search needs)
+    (λ c κs. search needs)
     (λ c. search needs)
     (λ c. search needs)
     loop-again

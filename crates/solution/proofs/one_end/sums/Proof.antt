@@ -1,0 +1,39 @@
+-- Every sum is that of the fields at that end, and none comes near 64 bits.
+use Rattle.solution.proofs.MadeLaws.{cations-fit, anions-fit, calculated-fits, made}
+use borrow.Author.Needs.{needs}
+use Rattle.solution.proofs.one_end.sums.Statement.{statement}
+use Rattle.solution.proofs.one_end.sums.Tie as tie
+
+plus-requires-2 : tie.Need-plus-requires-2
+plus-requires-2 c κs =
+    let eight = c .before in
+    let alkalinity = eight .before in
+    let start = alkalinity .before .before .before .before .before in
+    anions-fit _ (start .args .greatest) _ (start .pre) (eight .sums-of .ensures) (alkalinity .alkalinity-charge .ensures)
+
+returns : tie.Need-returns
+returns c =
+    let anions = c .before in
+    let cations = anions .before in
+    let eight = cations .before in
+    let alkalinity = eight .before in
+    let measured = alkalinity .before in
+    let nitrogen = measured .before in
+    let ratio = nitrogen .before in
+    let start = ratio .before .before in
+    made _ (start .args .greatest) _ (start .pre) (eight .sums-of .ensures) (alkalinity .alkalinity-charge .ensures) (cations .plus .ensures) (anions .plus2 .ensures)
+    (c .calculated .ensures) (measured .measured-conductivity .ensures) (ratio .sodium-chloride .ensures) (nitrogen .nitrogen .ensures)
+
+pub sums-spec : {M : Type 1} → statement M
+sums-spec =
+    tie.close
+    (tie.spec
+    (λ c κs. search needs)
+    (λ c κs. search needs)
+    (λ c κs. search needs)
+    (λ c κs. search needs)
+    (λ c κs. search needs)
+    (λ c κs. search cations-fit)
+    plus-requires-2
+    (λ c κs. search calculated-fits)
+    returns)
