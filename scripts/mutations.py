@@ -1,13 +1,13 @@
 #!/usr/bin/env python3
 """Small wrong edits of the sources, and whether anything refuses them. Not part of the gate.
 
-    scripts/mutations.py [COUNT [SEED]]
+    scripts/mutations.py [COUNT [SEED [CRATE ..]]]
 
-draws COUNT edits (50) of src/ by SEED (1), spread over the library crates: an operator, a constant, an operand or a truth
-value changed on one line of code, or two tests in a row changed about. Each is made in a copy of the repository and handed to
-the prover (`rt dev`, the edit loop); one that is no program at all does not count, and another is drawn for it. An edit that
-the prover accepts is then run through the programs' stored cases. What is left after both is a survivor: it either does not
-change what the code does, or it shows a promise that is too weak.
+draws COUNT edits (50) of src/ by SEED (1), spread over the crates named, or all library crates: an operator, a constant, an
+operand or a truth value changed on one line of code, or two tests in a row changed about. Each is made in a copy of the
+repository and handed to the prover (`rt dev`, the edit loop); one that is no program at all does not count, and another is
+drawn for it. An edit that the prover accepts is then run through the programs' stored cases. What is left after both is a
+survivor: it either does not change what the code does, or it shows a promise that is too weak.
 """
 import pathlib
 import random
@@ -18,7 +18,7 @@ import sys
 import tempfile
 
 ROOT = pathlib.Path(__file__).resolve().parent.parent
-CRATES = ['refusal', 'reading', 'hydrogen', 'record', 'agreement', 'solution', 'judge', 'docket', 'chart', 'words', 'chart_section', 'batch', 'listing', 'analyser']
+CRATES = ['refusal', 'reading', 'hydrogen', 'record', 'agreement', 'solution', 'judge', 'docket', 'chart', 'words', 'chart_section', 'batch', 'listing', 'joining', 'analyser']
 
 # What is written in place of what. Of an edit that fits in several places of a line, one place is drawn.
 SWAPS = [
@@ -65,12 +65,12 @@ def edits_of_crate(crate):
     return edits
 
 
-def drawn(seed):
+def drawn(seed, crates):
     """Edits taken from the crates in turn."""
     draw = random.Random(seed)
-    piles = {crate: draw.sample(edits, len(edits)) for crate in CRATES for edits in [edits_of_crate(crate)]}
+    piles = {crate: draw.sample(edits, len(edits)) for crate in crates for edits in [edits_of_crate(crate)]}
     while any(piles.values()):
-        for crate in CRATES:
+        for crate in crates:
             if piles[crate]:
                 yield crate, piles[crate].pop()
 
@@ -102,13 +102,14 @@ def tried(copy, crate, edit):
 def main():
     count = int(sys.argv[1]) if len(sys.argv) > 1 else 50
     seed = int(sys.argv[2]) if len(sys.argv) > 2 else 1
+    crates = sys.argv[3:] or CRATES
     counts = {}
     with tempfile.TemporaryDirectory() as folder:
         copy = pathlib.Path(folder) / 'copy'
         shutil.copytree(ROOT, copy, ignore=shutil.ignore_patterns('.git', 'reference', 'differential', 'benchmark'))
         if run(copy, 'check').returncode != 0:
             sys.exit('the crates as they stand are not proved')
-        for crate, edit in drawn(seed):
+        for crate, edit in drawn(seed, crates):
             if sum(counts.values()) == count:
                 break
             by = tried(copy, crate, edit)
