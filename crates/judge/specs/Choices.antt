@@ -13,7 +13,11 @@ pub record Bracket : Type 0 where
   pub most : ℕ
   pub unit : ℕ
 
--- n / d is among them
+-- exactly 1
+abbrev pub uncorrected : Bracket
+uncorrected = record { least = 1; most = 1; unit = 1 }
+
+-- n / d is in a bracket
 pub record InBracket (b : Bracket) (n d : ℕ) : Type 0 where
   pub divides : 0 < d
   pub over : b .least * d ≤ b .unit * n

@@ -9,7 +9,7 @@ use Rattle.solution.specs.Ions.{sum}
 use Rattle.solution.specs.Solutions.{gap}
 use Rattle.judge.specs.declared.ratio.Fraction.{Fraction}
 use Rattle.judge.specs.declared.window.Window.{Window}
-use Rattle.judge.specs.Choices.{Bracket, Ranges, Choice}
+use Rattle.judge.specs.Choices.{Bracket, uncorrected, Ranges, Choice}
 
 -- the fraction a / b
 abbrev pub fraction : ℕ → ℕ → Fraction
@@ -83,7 +83,7 @@ endsReached k r = eqb (k .hydrogen) 0 || r .whole
 -- what the first sum is multiplied by
 abbrev pub bracketOf : Bool → Ranges → Bracket
 bracketOf true r = r .correction
-bracketOf false r = record { least = 1; most = 1; unit = 1 }
+bracketOf false r = uncorrected
 
 abbrev pub leastFirst : Check → Ranges → ℕ
 leastFirst k r = k .hydrogen * r .floor + partAt (k .first) (r .least)

@@ -60,13 +60,12 @@ gap-small false = omega arith
 
 held-bounded : (f : Fields) (floor : ℕ) → Ranged f (floor + 1) → Bounded (sumRangesHeld f floor)
 held-bounded f floor r =
-    let high : ℕ = floor + gap (isWhole (f .ph)) in
-    let above : high ≤ floor + 1 = omega (arith, gap-small (isWhole (f .ph))) in
+    let above = gap-small (isWhole (f .ph)) in
     record {
       ordered =
           sums-rise (amountAt false (f .analytes)) (amountAt true (f .analytes)) (λ i l. range-ordered (analyteAt (f .analytes) i))
-          floor high (f .alkalinity) (f .alkalinity) (f .conductivity) (f .conductivity) (omega arith) (le-refl _) (le-refl _);
-      most = end-most f true high (less-ranged f high (floor + 1) above r);
+          floor _ (f .alkalinity) (f .alkalinity) (f .conductivity) (f .conductivity) (omega arith) (le-refl _) (le-refl _);
+      most = end-most f true _ (less-ranged f _ (floor + 1) (omega arith) r);
     }
 
 none-most : (x : Sums) → AtMost noSums x

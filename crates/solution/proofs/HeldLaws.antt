@@ -15,7 +15,7 @@ use Rattle.record.specs.declared.TestedRecord.{TestedRecord}
 use Rattle.record.specs.Tested.{Holds, analyteAt}
 use Rattle.record.proofs.AllBelow.{all-same}
 use Rattle.solution.specs.Ions.{sum}
-use Rattle.solution.specs.Solutions.{ionsKnown}
+use Rattle.solution.specs.Solutions.{rangeAt, ionsKnown}
 use Rattle.solution.specs.ByValue.{thereAt, endOf, amountAt}
 use Rattle.solution.specs.Steps.{Small}
 
@@ -40,7 +40,7 @@ module _ (s : List ℕ) (r : TestedRecord) (w : Holds s r) where
   pub held-amount : (i : ℕ) → i < readings → analyteAt h i .mass .0 ≡ massAt s i
   held-amount i l = ap (λ (a : Analyte). a .mass .0) (w .readings i l)
 
-  pub held-end : (greatest : Bool) (i : ℕ) → i < readings → amountAt greatest h i ≡ endOf greatest (rangeOf (analyteOf (readingAt s i)))
+  pub held-end : (greatest : Bool) (i : ℕ) → i < readings → amountAt greatest h i ≡ endOf greatest (rangeAt s i)
   held-end greatest i l = ap (λ (a : Analyte). endOf greatest (rangeOf a)) (w .readings i l)
 
   pub held-small : Small h
@@ -51,5 +51,5 @@ module _ (s : List ℕ) (r : TestedRecord) (w : Holds s r) where
 
   -- a sum of what is held is that of the record
   pub held-sum : (greatest : Bool) (w : ℕ → ℕ)
-      → sum (λ i. w i * amountAt greatest h i) readings ≡ sum (λ i. w i * endOf greatest (rangeOf (analyteOf (readingAt s i)))) readings
-  held-sum greatest w = weighed-same w (amountAt greatest h) (λ i. endOf greatest (rangeOf (analyteOf (readingAt s i)))) readings (held-end greatest)
+      → sum (λ i. w i * amountAt greatest h i) readings ≡ sum (λ i. w i * endOf greatest (rangeAt s i)) readings
+  held-sum greatest w = weighed-same w (amountAt greatest h) (λ i. endOf greatest (rangeAt s i)) readings (held-end greatest)

@@ -6,13 +6,12 @@ use Prim.Native.Nat.{ℕ, _+_, _*_}
 use native.Mathlib.Omega.{arith}
 use Rattle.hydrogen.specs.Floors.{isWhole, floorAt}
 use Rattle.hydrogen.proofs.Laws.{floor-most}
-use Rattle.reading.specs.Analytes.{analyteOf, rangeOf}
 use Rattle.record.specs.declared.TestedRecord.{TestedRecord}
-use Rattle.record.specs.Record.{ammonium, sodium, nitrate, chloride, totalNitrogen, phOf, conductivityOf, alkalinityOf, readingAt}
+use Rattle.record.specs.Record.{ammonium, sodium, nitrate, chloride, totalNitrogen, phOf, conductivityOf, alkalinityOf}
 use Rattle.record.specs.Tested.{Fields, Holds, fieldsIn}
 use Rattle.record.proofs.AcceptedLaws.{Valid}
 use Rattle.solution.specs.Ions.{cationCharge, anionCharge, conducted, alkalinityCharge, hydrogenConductance}
-use Rattle.solution.specs.Solutions.{gap, alkalinityConducts, measuredOf, sumsWith, sumRangesOf}
+use Rattle.solution.specs.Solutions.{rangeAt, gap, alkalinityConducts, measuredOf, sumsWith, sumRangesOf}
 use Rattle.solution.specs.ByValue.{endOf, sumsHeld, sumRangesHeld, sumRangesBy}
 use Rattle.solution.specs.Steps.{Ranged, Bounded}
 use Rattle.solution.proofs.HeldLaws.{held-known, held-sum, held-end, held-small}
@@ -37,7 +36,7 @@ module _ (s : List ℕ) (own : TestedRecord) (floor : ℕ) (v : Valid s) (h : Ho
 
   -- at either end
   own-sums : (greatest : Bool) {x y : ℕ} → x ≡ y
-      → sumsHeld (fieldsIn own) greatest x ≡ sumsWith (λ i. endOf greatest (rangeOf (analyteOf (readingAt s i)))) y (alkalinityOf s) (conductivityOf s)
+      → sumsHeld (fieldsIn own) greatest x ≡ sumsWith (λ i. endOf greatest (rangeAt s i)) y (alkalinityOf s) (conductivityOf s)
   own-sums greatest e =
       let amount = held-end s own h greatest in
       let E = ap₂ (λ (x y : ℕ). x + y) (ap alkalinityConducts (h .alkalinity)) (held-sum s own h greatest conducted) in
@@ -56,7 +55,7 @@ module _ (s : List ℕ) (own : TestedRecord) (floor : ℕ) (v : Valid s) (h : Ho
   own-both : sumRangesHeld (fieldsIn own) floor ≡ sumRangesOf s
   own-both =
       let whole = ap isWhole (h .ph) in
-      same-ranges (held-known s own h) whole (own-sums false f) (own-sums true (ap₂ (λ (x y : ℕ). x + y) f (ap gap whole)))
+      same-ranges (held-known s own h) whole (own-sums false f) (own-sums true (cc (f, ap gap whole)))
 
   pub fields-give : sumRangesBy (fieldsIn own) floor ≡ sumRangesOf s
   fields-give = sym (ranges-held (fieldsIn own) floor (in-ranges (fieldsIn own) floor own-ranges)) ∙ own-both

@@ -3,18 +3,21 @@ use mathlib.Core.Bool.{Bool, cond}
 use mathlib.Core.List.{List}
 use Prim.Native.Nat.{ℕ, _+_, _*_, _^_}
 use Rattle.hydrogen.specs.Floors.{isWhole, floorAt}
-use Rattle.reading.specs.Analytes.{present, analyteOf, rangeOf}
+use Rattle.reading.specs.Analytes.{present, analyteOf, AmountRange, rangeOf}
 use Rattle.record.specs.Record.{ions, readings, ammonium, sodium, nitrate, chloride, totalNitrogen, phOf, conductivityOf, alkalinityOf, readingAt, allBelow}
 use Rattle.solution.specs.declared.Sums.{Sums as SumsHeld}
 use Rattle.solution.specs.declared.Solution.{Solution}
 use Rattle.solution.specs.Ions.{cationCharge, anionCharge, conducted, hydrogenConductance, alkalinityCharge, alkalinityConductance, sum}
 
 -- ---- what a record leaves open: each amount from its least to its greatest, and hydrogen
+abbrev pub rangeAt : List ℕ → ℕ → AmountRange
+rangeAt s i = rangeOf (analyteOf (readingAt s i))
+
 abbrev pub leastAt : List ℕ → ℕ → ℕ
-leastAt s i = rangeOf (analyteOf (readingAt s i)) .least
+leastAt s i = rangeAt s i .least
 
 abbrev pub greatestAt : List ℕ → ℕ → ℕ
-greatestAt s i = rangeOf (analyteOf (readingAt s i)) .most
+greatestAt s i = rangeAt s i .most
 
 -- how far hydrogen may be above its floor, in u: 0 where it is its floor, at a whole pH, else up to 1
 abbrev pub gap : Bool → ℕ
@@ -60,7 +63,7 @@ sumsWith amount hydrogen t m =
     }
 
 -- whether no ion is missing and whether hydrogen is its floor; and each sum at its least, with the least amounts and hydrogen at its
--- floor, and at its greatest, with the greatest amounts and hydrogen with the gap above it
+-- floor, and at its greatest, with the greatest amounts and hydrogen the gap above its floor
 pub record SumRanges : Type 0 where
   pub known : Bool
   pub whole : Bool

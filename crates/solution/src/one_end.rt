@@ -47,6 +47,7 @@ pub fn sums(own: TestedRecord, greatest: bool, hydrogen: Charge) -> Sums
     }
 }
 
+// No sums: each is 0.
 pub fn no_sums() -> Sums
     ensures { λ r. ⌜ sumsIn r ≡ noSums ⌝ }
 {
