@@ -245,16 +245,17 @@ static void verdicts(void)
     };
     const struct record record = printed();
     hold_verdicts("the printed sample", record, IN, IN, IN, IN);
-    hold_verdicts("its conductivity 12.8", with(record, PELTQUARRY_RECORD_CONDUCTIVITY, 128), IN, OUT, IN, IN);
+    hold_verdicts("its conductivity 12.5", with(record, PELTQUARRY_RECORD_CONDUCTIVITY, 125), IN, OUT, IN, IN);
     hold_verdicts("without sodium", without(record, PELTQUARRY_NA), GONE, GONE, GONE, IN);
     hold_verdicts("without nitrate", without(record, PELTQUARRY_NO3_N), GONE, GONE, IN, GONE);
     hold_verdicts("without total nitrogen", without(record, PELTQUARRY_TN), IN, IN, IN, NONE);
     struct record less = record;
     measure(&less, PELTQUARRY_TN, 0.25f);
     hold_verdicts("with less total nitrogen", less, IN, IN, IN, OUT);
-    /* Found by search: calculated conductivity ends a limit between two whole numbers of u of hydrogen. */
+    /* Found by search: the ends of the correction for ionic strength take calculated conductivity to both sides of a limit. */
+    hold_verdicts("its conductivity 12.6", with(record, PELTQUARRY_RECORD_CONDUCTIVITY, 126), IN, OPEN, IN, IN);
     static const float milligrams[] = {0.274f, 0.25f, 0.202f, 0.566f, 4.378f, 0.15f, 0.267f, 2.669f};
-    struct record undecided = sample(507, 200, 142, milligrams, IONS);
+    struct record undecided = sample(507, 194, 142, milligrams, IONS);
     undecided.words[PELTQUARRY_RECORD_KIND] = PELTQUARRY_SOIL_WATER;
     hold_verdicts("an undecided one", undecided, NONE, OPEN, NONE, NONE);
 }

@@ -142,7 +142,7 @@ extern "C" {
 #define PELTQUARRY_MOST_LINE (PELTQUARRY_NUMBER_DIGITS + 2 * (PELTQUARRY_ROW_WORDS - PELTQUARRY_ROW_VERDICTS) + 1)
 #define PELTQUARRY_MOST_TEXT (3 + 1 + PELTQUARRY_MOST_SAMPLES * PELTQUARRY_MOST_LINE)
 
-/* Verdicts. */
+/* Verdicts. Calculated conductivity is corrected for ionic strength; that verdict may be undecided at any pH. */
 #define PELTQUARRY_NOT_APPLICABLE 0
 #define PELTQUARRY_WITHIN 1
 #define PELTQUARRY_OUTSIDE 2

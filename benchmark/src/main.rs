@@ -5,6 +5,7 @@
 //! `benchmark once SIDE ROW` runs one side of one row once, for a tool that
 //! counts instructions.
 
+mod floors;
 mod inputs;
 mod numbers;
 mod plain;

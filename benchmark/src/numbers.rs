@@ -1,4 +1,4 @@
-//! The numbers of documents 01 and 02 (i) to (iii) that both sides of a row go by: where words
+//! The numbers of documents 01 and 02 (i) to (v) that both sides of a row go by: where words
 //! stand, how many there are and how far values reach.
 
 // A record.
@@ -22,6 +22,8 @@ pub const MOST_CONDUCTIVITY: u32 = 100_000;
 pub const MOST_ALKALINITY: u32 = 200_000;
 /// How many floors of hydrogen there are: one for each pH.
 pub const FLOORS: usize = (MOST_PH - LEAST_PH + 1) as usize;
+/// How many floors of powers there are: one for each thousandth that the exponent of y² may be.
+pub const POWERS: usize = 200;
 
 // Its readings: the mark and the float's bits of each, the first eight ions.
 pub const MARK: usize = 0;

@@ -2,14 +2,14 @@
 //! adds up what they answer, so that nothing is left out and both can be
 //! compared.
 
+use crate::floors::floors;
 use crate::inputs::{a_batch, a_bottle, a_chart, a_pair, a_record, Random};
 use crate::numbers::{
-    CHECKS, DOCKET_COUNT, DOCKET_STATE, DOCKET_WORDS, LEAST_PH, MOST_ANSWER, MOST_BATCH,
-    MOST_LATER, MOST_SAMPLES, MOST_SETUP, RECORD_WORDS,
+    CHECKS, DOCKET_COUNT, DOCKET_STATE, DOCKET_WORDS, MOST_ANSWER, MOST_BATCH, MOST_LATER,
+    MOST_SAMPLES, MOST_SETUP, RECORD_WORDS,
 };
 use crate::plain::{batch, chart, checks, docket::Docket, join, Floors};
 use crate::proved;
-use reference::hydrogen::Ph;
 
 const RECORDS: usize = 2000;
 const BOTTLES: usize = 700;
@@ -23,10 +23,6 @@ pub struct Row {
     pub pieces: usize,
     pub proved: Box<dyn FnMut() -> u64>,
     pub plain: Box<dyn FnMut() -> u64>,
-}
-
-fn floors() -> Floors {
-    std::array::from_fn(|i| Ph::new(LEAST_PH + i as u32).map_or(0, Ph::floor))
 }
 
 fn sum(words: &[u32]) -> u64 {

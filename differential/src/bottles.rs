@@ -3,24 +3,39 @@
 use crate::floats::{any_reading, scattered_reading};
 use crate::numbers::{
     AMMONIUM, CONDUCTIVITY_TENTH, IONS, LEAST_PH, MOST_ALKALINITY, MOST_AMOUNT, MOST_CONDUCTIVITY,
-    MOST_PH, MOST_TRACE, NITRATE, ORGANIC_CARBON, READINGS, SODIUM, SOIL_WATER, TOTAL_NITROGEN,
-    WET_ONLY,
+    MOST_PH, MOST_TRACE, NITRATE, ORGANIC_CARBON, READINGS, SODIUM, SOIL_WATER, SQUARE_UNIT,
+    TOTAL_NITROGEN, WET_ONLY,
 };
 use crate::random::Draw;
 use crate::sample_numbers::any_number;
 use reference::cases::bottle::Bottle;
+use reference::cases::conducting::{bracket_of, tenths_at_edges};
 use reference::cases::generator::Generator;
 use reference::hydrogen::Ph;
 use reference::ions::{
     alkalinity_charge, charge, ALKALINITY_CONDUCTANCE, ANIONS, CATIONS, HYDROGEN_CONDUCTANCE, TABLE,
 };
 
-/// Now as from the field, now anything a record may hold.
+/// Now as from the field, now anything a record may hold; of each some with a
+/// measured conductivity next to an end of their bracket.
 pub fn any_bottle(generator: &mut Generator) -> Bottle {
-    if generator.once_in(4) {
+    let bottle = if generator.once_in(4) {
         scattered(generator)
     } else {
         everyday(generator)
+    };
+    if generator.once_in(8) {
+        on_an_end(generator, bottle)
+    } else {
+        bottle
+    }
+}
+
+/// The bottle measured next to an end of its bracket, where it has one.
+fn on_an_end(generator: &mut Generator, bottle: Bottle) -> Bottle {
+    match tenths_at_edges(&bottle).as_slice() {
+        [] => bottle,
+        tenths => bottle.conductivity(generator.pick(tenths)),
     }
 }
 
@@ -87,9 +102,9 @@ struct Draft {
 
 impl Draft {
     fn drawn(generator: &mut Generator) -> Draft {
-        // From thin rain, 5 µg/L, to what no field has, 40 mg/L; in any of it
-        // one ion in eight is a trace.
-        let most = generator.pick(&[50, 500, 5_000, 20_000, 60_000, 400_000]);
+        // From thin rain, 5 µg/L, to what no field has, 40 mg/L and the most
+        // there may be; in any of it one ion in eight is a trace.
+        let most = generator.pick(&[50, 500, 5_000, 20_000, 60_000, 400_000, MOST_AMOUNT]);
         let mut amounts = [0; READINGS];
         for amount in &mut amounts[..IONS] {
             *amount = match generator.below(8) {
@@ -133,16 +148,23 @@ impl Draft {
             self.alkalinity = generator.near(tenths, percent);
         } else {
             let sodium = (-surplus / charge(SODIUM, 1)).min(900_000) as u32;
-            self.amounts[SODIUM] += generator.near(sodium, percent);
+            let more = self.amounts[SODIUM] + generator.near(sodium, percent);
+            self.amounts[SODIUM] = more.min(MOST_AMOUNT);
         }
     }
 
-    /// A measured conductivity about the calculated one.
+    /// A measured conductivity about the calculated one: a y² of its bracket times
+    /// the plain sum.
     fn conductivity(&self, generator: &mut Generator) -> u32 {
-        let part = |ion: usize| TABLE[ion].conductance * charge(ion, self.amounts[ion]);
-        let ions: i128 = (0..IONS).map(part).sum();
+        let ions = std::array::from_fn(|ion| self.amounts[ion]);
+        let square = Ph::new(self.ph).map_or(SQUARE_UNIT, |ph| {
+            bracket_of(&ions, self.alkalinity, ph).greatest
+        });
+        let part = |ion: usize| TABLE[ion].conductance * charge(ion, ions[ion]);
         let alkalinity = ALKALINITY_CONDUCTANCE * alkalinity_charge(self.alkalinity);
-        let calculated = HYDROGEN_CONDUCTANCE * self.hydrogen() + alkalinity + ions;
+        let others = alkalinity + (0..IONS).map(part).sum::<i128>();
+        let plain = HYDROGEN_CONDUCTANCE * self.hydrogen() + others;
+        let calculated = square * plain / SQUARE_UNIT;
         let tenths = (calculated / CONDUCTIVITY_TENTH).min(70_000) as u32;
         generator.near(tenths, 35).clamp(1, MOST_CONDUCTIVITY)
     }
@@ -164,16 +186,16 @@ mod tests {
     }
 
     #[test]
-    fn every_verdict_but_undecided_is_common() {
+    fn every_verdict_but_an_undecided_balance_is_common() {
         let mut generator = Generator::new(2);
         let mut times = [[0; 5]; CHECKS];
         for _ in 0..5_000 {
-            let verdicts = judge(everyday(&mut generator).words());
+            let verdicts = judge(any_bottle(&mut generator).words());
             for (check, verdict) in verdicts.into_iter().flatten().enumerate() {
                 times[check][verdict as usize] += 1;
             }
         }
-        for (check, verdicts) in [[0, 1, 2, 4], [1, 2, 4, 4], [0, 1, 2, 4], [0, 1, 2, 4]]
+        for (check, verdicts) in [[0, 1, 2, 4], [1, 2, 3, 4], [0, 1, 2, 4], [0, 1, 2, 4]]
             .into_iter()
             .enumerate()
         {

@@ -1,12 +1,13 @@
 //! Faults put into the stand-in: each must be found by the part that it names.
 
+mod activity;
 mod amounts;
 mod floors;
 mod joins;
 mod list;
 mod numbers;
 
-pub use list::{Fault, FAULTS};
+pub use list::{Fault, CORRECTION, FAULTS};
 
 use crate::answers;
 use crate::library::Library;
@@ -17,13 +18,14 @@ use crate::numbers::{
     WORD_BYTES,
 };
 use crate::stand_in::{write, write_telling, StandIn};
+use activity::judge_by_another_correction;
 use amounts::{in_micrograms, misread, with_amounts};
 use floors::judge_by_another_floor;
 use joins::misjoined;
 use numbers::{misnumbered, misnumbered_rows, offer_by_the_low_part, text_of_low_parts};
 use reference::charts::SEVEN_ON_ONE_SIDE;
 use reference::checks::{
-    conductivity, decide_by, ion_balance, Conductivity, Inequality, IonBalance,
+    conductivity, decide_by, ion_balance, Conductivity, Fraction, Inequality, IonBalance,
 };
 use reference::docket::agree;
 use reference::readings::Reading;
@@ -170,36 +172,41 @@ fn distort(fault: Fault, record: &Record, verdicts: &mut [u32]) {
         OneDivisionTooFew | DividedToTheNearest | NextNumberDivided | WrongFloorAt253 => {
             judge_by_another_floor(fault, record, verdicts);
         }
+        _ if CORRECTION.contains(&fault) => judge_by_another_correction(fault, record, verdicts),
         _ => {}
     }
 }
 
-/// Both inequalities of a record, with the place of their verdict.
-fn inequalities(record: &Record) -> Option<[(usize, Box<dyn Inequality>); 2]> {
-    let balance = Box::new(IonBalance::of(record)?);
-    let conductivity = Box::new(Conductivity::of(record)?);
-    Some([(BALANCE_CHECK, balance), (CONDUCTIVITY_CHECK, conductivity)])
+/// Both verdicts that go by hydrogen, with their places, where its floor is h.
+fn verdicts_at(record: &Record, h: i128, is_whole: bool) -> Option<[(usize, u32); 2]> {
+    let balance = decide_by(h, is_whole, &IonBalance::of(record)?);
+    let conductivity = Conductivity::of(record)?.verdict(h, is_whole);
+    Some([
+        (BALANCE_CHECK, balance.number()),
+        (CONDUCTIVITY_CHECK, conductivity.number()),
+    ])
 }
 
-/// "Less" in place of "at most": with hydrogen exactly on a limit, outside.
+/// "Less" in place of "at most": with hydrogen exactly on a limit of the ion
+/// balance, outside. Conductivity is never on one of its limits.
 fn exclude_the_limit(record: &Record, verdicts: &mut [u32]) {
+    let Some(balance) = IonBalance::of(record) else {
+        return;
+    };
     let h = i128::from(record.ph.floor());
-    for (place, inequality) in inequalities(record).into_iter().flatten() {
-        let span = inequality.span();
-        let on = |end: reference::checks::Fraction| end.numerator == h * end.denominator;
-        let on_a_limit = on(span.least) || on(span.greatest);
-        if verdicts[place] == 1 && record.ph.has_whole_hydrogen() && on_a_limit {
-            verdicts[place] = 2;
-        }
+    let on = |end: Fraction| end.numerator == h * end.denominator;
+    let on_a_limit = on(balance.span().least) || on(balance.span().greatest);
+    if verdicts[BALANCE_CHECK] == 1 && record.ph.has_whole_hydrogen() && on_a_limit {
+        verdicts[BALANCE_CHECK] = 2;
     }
 }
 
 /// h taken for H.
 fn take_the_floor(record: &Record, verdicts: &mut [u32]) {
     let h = i128::from(record.ph.floor());
-    for (place, inequality) in inequalities(record).into_iter().flatten() {
+    for (place, verdict) in verdicts_at(record, h, true).into_iter().flatten() {
         if verdicts[place] == 3 {
-            verdicts[place] = decide_by(h, true, &*inequality).number();
+            verdicts[place] = verdict;
         }
     }
 }

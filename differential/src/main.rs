@@ -1,5 +1,5 @@
 //! The proved library against the other implementation of document 01, with
-//! requests (i) to (iv) of document 02.
+//! requests (i) to (v) of document 02.
 
 mod answers;
 mod batches;
@@ -12,10 +12,12 @@ mod charts;
 #[cfg(feature = "stand-in")]
 mod faults;
 mod floats;
+mod ions;
 mod joins;
 mod library;
 mod numbers;
 mod offers;
+mod on_an_edge;
 mod on_the_limit;
 mod outcome;
 mod parts;
@@ -26,6 +28,7 @@ mod sample_numbers;
 mod shrink;
 #[cfg(feature = "stand-in")]
 mod stand_in;
+mod strength;
 mod validation;
 
 #[cfg(not(feature = "stand-in"))]

@@ -3,7 +3,7 @@
 use crate::canary::Lent;
 use crate::case::{Case, Difference, Mismatch, Run};
 use crate::library::Library;
-use crate::numbers::{BULK, CHECKS, CONDUCTIVITY_CHECK, READINGS};
+use crate::numbers::{BULK, CHECKS, READINGS};
 use crate::records::describe_record;
 use reference::cases::bottle::Bottle;
 
@@ -19,13 +19,6 @@ const READING_COLUMNS: usize = 4;
 const JUDGEMENT_COLUMNS: usize = READING_COLUMNS + READINGS;
 
 const NAMES: [&str; CHECKS] = ["ion balance", "conductivity", "Na/Cl", "nitrogen"];
-
-/// The one judgement in which document 01 and the sheet part: conductivity in
-/// row 20. The sheet corrects the calculated conductivity for ionic strength,
-/// which takes it from less than a tenth below the measured 41.1 µS/cm to more:
-/// there it is outside, printed as −11 %. Document 01 doesn't correct, and has
-/// it within.
-const PARTING: (u32, usize) = (20, CONDUCTIVITY_CHECK);
 
 pub fn run(run: &mut Run) -> Result<(), Mismatch> {
     for row in rows() {
@@ -77,15 +70,6 @@ impl Row {
             published,
         }
     }
-
-    /// What is due: what is published, but for the one judgement that parts.
-    fn due(&self) -> [u32; CHECKS] {
-        let mut due = self.published;
-        if self.number == PARTING.0 {
-            due[PARTING.1] = 1;
-        }
-        due
-    }
 }
 
 /// A decimal number times 10^places, which is whole for every field here.
@@ -118,9 +102,9 @@ impl Case for Row {
         let mut lent = Lent::<u32>::of_length(CHECKS);
         let answer = library.judge(self.record.words(), lent.slice());
         let found = (answer, lent.content());
-        (found != (0, &self.due())).then(|| Difference {
+        (found != (0, &self.published)).then(|| Difference {
             library: describe(answer, lent.content()),
-            reference: format!("{} (the sheet)", describe(0, &self.due())),
+            reference: format!("{} (the sheet)", describe(0, &self.published)),
         })
     }
 
@@ -151,8 +135,10 @@ fn describe(answer: u32, verdicts: &[u32]) -> String {
 mod tests {
     use super::*;
     use crate::answers::judge;
-    use crate::numbers::{NUMBER_WORDS, RANGES};
+    use crate::numbers::{CONDUCTIVITY_CHECK, NUMBER_WORDS, RANGES};
+    use reference::checks::plain_conductivity;
     use reference::readings::Reading;
+    use reference::record::Record;
 
     #[test]
     fn the_sheet_has_24_rows_of_bulk_samples() {
@@ -166,19 +152,34 @@ mod tests {
         assert!(rows.iter().all(|row| judge(row.record.words()).is_ok()));
     }
 
+    /// 96 of 96.
     #[test]
-    fn exactly_one_judgement_parts() {
-        let mut parting = Vec::new();
+    fn every_judgement_is_the_published_one() {
+        let mut judgements = 0;
         for row in rows() {
             let verdicts = judge(row.record.words()).expect("a record");
-            let both = verdicts.into_iter().zip(row.published).enumerate();
-            for (check, (verdict, published)) in both {
-                if verdict != published {
-                    parting.push((row.number, check, verdict, published));
-                }
-            }
+            assert_eq!(verdicts, row.published, "row {}", row.number);
+            judgements += verdicts.len();
         }
-        assert_eq!(parting, [(PARTING.0, PARTING.1, 1, 2)]);
+        assert_eq!(judgements, 96);
+    }
+
+    /// The sheet corrects calculated conductivity for ionic strength, which takes
+    /// row 20's from less than a tenth below the measured 41.1 µS/cm to more,
+    /// printed as −11 %: the plain sum would part from the sheet there, and
+    /// nowhere else.
+    #[test]
+    fn only_row_20_hangs_on_the_correction() {
+        let parts = |row: &Row| {
+            let record = Record::read(row.record.words()).expect("a record");
+            plain_conductivity(&record).number() != row.published[CONDUCTIVITY_CHECK]
+        };
+        let parting: Vec<u32> = rows()
+            .iter()
+            .filter(|row| parts(row))
+            .map(|row| row.number)
+            .collect();
+        assert_eq!(parting, [20]);
     }
 
     /// The sheet prints whole µg/L: the nearest float has that amount exactly,

@@ -1,4 +1,4 @@
-//! Whole numbers of any size, just enough for hundredth powers.
+//! Whole numbers of any size, just enough for hundredth and thousandth powers.
 
 use std::cmp::Ordering;
 
@@ -54,6 +54,22 @@ impl Big {
             square.times(self)
         }
     }
+
+    /// The greatest whole number below `too_great` whose power is at most this
+    /// number: halving what is left between a number that is small enough and
+    /// one that is too great.
+    pub fn root(&self, exponent: u32, too_great: u64) -> u64 {
+        let (mut small_enough, mut too_great) = (0, too_great);
+        while too_great - small_enough > 1 {
+            let middle = small_enough + (too_great - small_enough) / 2;
+            if Big::new(u128::from(middle)).power(exponent) <= *self {
+                small_enough = middle;
+            } else {
+                too_great = middle;
+            }
+        }
+        small_enough
+    }
 }
 
 impl Ord for Big {
@@ -92,6 +108,14 @@ mod tests {
                 assert_eq!(Big::new(base).power(exponent), Big::new(base.pow(exponent)));
             }
         }
+    }
+
+    #[test]
+    fn roots_are_the_greatest_that_are_small_enough() {
+        for (number, exponent, root) in [(0, 2, 0), (8, 3, 2), (26, 3, 2), (27, 3, 3), (99, 2, 9)] {
+            assert_eq!(Big::new(number).root(exponent, 100), root);
+        }
+        assert_eq!(Big::new(10_000).root(2, 100), 99);
     }
 
     #[test]

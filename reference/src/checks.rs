@@ -1,12 +1,17 @@
 //! "The four checks".
 
-use crate::hydrogen::Ph;
-use crate::ions::{
-    alkalinity_charge, charge, ALKALINITY_CONDUCTANCE, ANIONS, CATIONS, HYDROGEN_CONDUCTANCE, TABLE,
+mod conductivity;
+
+pub use conductivity::{
+    conductivity, conductivity_limit, plain_conductivity, Calculated, Conductivity,
+    PlainConductivity,
 };
+
+use crate::hydrogen::Ph;
+use crate::ions::{alkalinity_charge, charge, ANIONS, CATIONS};
 use crate::numbers::{
-    AMMONIUM, BULK, CARBON_LINE, CHECKS, CHLORIDE, CONDUCTIVITY_TENTH, IONS, NITRATE,
-    ORGANIC_CARBON, RUNOFF, SODIUM, STEMFLOW, TOTAL_NITROGEN, WET_ONLY,
+    AMMONIUM, BULK, CARBON_LINE, CHECKS, CHLORIDE, NITRATE, ORGANIC_CARBON, RUNOFF, SODIUM,
+    STEMFLOW, TOTAL_NITROGEN, WET_ONLY,
 };
 use crate::record::Record;
 
@@ -213,71 +218,6 @@ pub fn ion_balance(record: &Record) -> Verdict {
     match IonBalance::of(record) {
         None => Verdict::ReadingMissing,
         Some(balance) => decide(record.ph, &balance),
-    }
-}
-
-/// "Within: 100 times the difference of CE and CM, its sign dropped, is at most
-/// M × CM, both in the same unit", which is 10^−13 µS/cm.
-pub struct Conductivity {
-    /// CE without the part of hydrogen.
-    others: i128,
-    /// CM.
-    measured: i128,
-    /// M.
-    limit: i128,
-}
-
-impl Conductivity {
-    /// Nothing where one of the eight ions is missing.
-    pub fn of(record: &Record) -> Option<Conductivity> {
-        let amounts = record.ion_amounts()?;
-        let part_of = |ion: usize| TABLE[ion].conductance * charge(ion, amounts[ion]);
-        let alkalinity = ALKALINITY_CONDUCTANCE * alkalinity_charge(record.alkalinity);
-        Some(Conductivity {
-            others: alkalinity + (0..IONS).map(part_of).sum::<i128>(),
-            measured: i128::from(record.conductivity) * CONDUCTIVITY_TENTH,
-            limit: conductivity_limit(record.conductivity),
-        })
-    }
-}
-
-/// "M is 30 up to 10.0, 20 up to 20.0, 10 above."
-fn conductivity_limit(tenths: u32) -> i128 {
-    match tenths {
-        0..=100 => 30,
-        101..=200 => 20,
-        _ => 10,
-    }
-}
-
-impl Inequality for Conductivity {
-    fn holds_at(&self, hydrogen: i128) -> bool {
-        let calculated = HYDROGEN_CONDUCTANCE * hydrogen + self.others;
-        100 * (calculated - self.measured).abs() <= self.limit * self.measured
-    }
-
-    /// With R for the part of the others and H for hydrogen:
-    /// 100 × (3500 × H + R − CM) ≤ M × CM is
-    /// 350,000 × H ≤ (100 + M) × CM − 100 × R, and
-    /// 100 × (CM − 3500 × H − R) ≤ M × CM is
-    /// 350,000 × H ≥ (100 − M) × CM − 100 × R.
-    fn span(&self) -> Span {
-        let hydrogen_at = |percent: i128| Fraction {
-            numerator: percent * self.measured - 100 * self.others,
-            denominator: 100 * HYDROGEN_CONDUCTANCE,
-        };
-        Span {
-            least: hydrogen_at(100 - self.limit),
-            greatest: hydrogen_at(100 + self.limit),
-        }
-    }
-}
-
-/// Conductivity. "All kinds. Needs the eight ions."
-pub fn conductivity(record: &Record) -> Verdict {
-    match Conductivity::of(record) {
-        None => Verdict::ReadingMissing,
-        Some(inequality) => decide(record.ph, &inequality),
     }
 }
 

@@ -63,22 +63,10 @@ fn hundredth(base: u128) -> Big {
 }
 
 /// "Its floor h is the greatest whole number whose hundredth power is at most
-/// 10^(1500−p)": halving what is left between a number that is small enough
-/// and one that is too great.
+/// 10^(1500−p)." As p is at least 200, that is at most 10^13: (10^13)^100 is
+/// 10^1300.
 fn search_floor(ph: Ph) -> u64 {
-    let bound = ph.hundredth_power();
-    let mut small_enough = 0u64;
-    // p is at least 200, and (10^13)^100 is 10^1300.
-    let mut too_great = 10_000_000_000_001u64;
-    while too_great - small_enough > 1 {
-        let middle = small_enough + (too_great - small_enough) / 2;
-        if hundredth(u128::from(middle)) <= bound {
-            small_enough = middle;
-        } else {
-            too_great = middle;
-        }
-    }
-    small_enough
+    ph.hundredth_power().root(100, 10_000_000_000_001)
 }
 
 #[cfg(test)]

@@ -1,11 +1,12 @@
 //! The water analysis judge a second time, written from documents 01 and 02 (i)
-//! to (iv) and the settled readings of their open points alone.
+//! to (v) and the settled readings of their open points alone.
 //!
 //! The modules follow the sections of document 01. Every algorithm is the most
 //! literal one: whole numbers and exact fractions, nothing tabulated beyond
 //! the tables that document 01 prints itself. Where words stand, how many there
 //! are and how far values reach is in `numbers` alone.
 
+pub mod activity;
 pub mod batch;
 pub mod big;
 pub mod charts;

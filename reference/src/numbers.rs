@@ -1,7 +1,7 @@
-//! The numbers of documents 01 and 02 (i) and (ii) in one place: where words
-//! stand, how many there are and how far values reach; 02 (iii) brings no new
-//! ones. What follows from others is worked out from them. A comment quotes
-//! document 01 unless it names 02 (i) or 02 (ii).
+//! The numbers of documents 01 and 02 (i), (ii) and (v) in one place: where
+//! words stand, how many there are and how far values reach; 02 (iii) and (iv)
+//! bring no new ones. What follows from others is worked out from them. A
+//! comment quotes document 01 unless it names 02 (i), 02 (ii) or 02 (v).
 
 use std::ops::RangeInclusive;
 
@@ -105,6 +105,17 @@ pub const AMOUNT_CHARGE: i128 = 1_000;
 pub const ALKALINITY_CHARGE: i128 = 100_000_000;
 /// A tenth of a µS/cm in units of 10^−13 µS/cm.
 pub const CONDUCTIVITY_TENTH: i128 = 1_000_000_000_000;
+
+/// "The unit u is 10^−9 µeq/L": so many are an equivalent per litre, in which
+/// 02 (v) has ionic strength.
+pub const EQUIVALENT: i128 = 1_000_000_000_000_000;
+/// s is a "multiple of 10^−6" (02 (v)): so many of these are 1.
+pub const ROOT_STEPS: i128 = 1_000_000;
+/// e is a whole number of "thousandths" (02 (v)): so many of these are 1.
+pub const THOUSANDTHS: u32 = 1_000;
+/// "10^9 y² lies between" whole numbers (02 (v)): the exponent, and the power.
+pub const SQUARE_EXPONENT: u32 = 9;
+pub const SQUARE_UNIT: i128 = 10i128.pow(SQUARE_EXPONENT);
 
 /// The four checks and the places of their verdicts.
 pub const CHECKS: usize = 4;

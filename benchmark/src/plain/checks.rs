@@ -1,10 +1,10 @@
 //! The four checks.
 
 use super::record::Record;
-use super::{Floors, Refusal};
+use super::{activity, Floors, Refusal};
 use crate::numbers::{
     ALKALINITY_CHARGE, AMOUNT_CHARGE, CARBON_LINE, CHECKS, CL, DOC, IONS, LEAST_PH, NA, NH4, NO3,
-    TN,
+    POWERS, TN,
 };
 
 const NOT_APPLICABLE: u32 = 0;
@@ -16,28 +16,37 @@ const MISSING: u32 = 4;
 const CATIONS: usize = 5;
 const FACTORS: [u64; IONS] = [7139, 4990, 8229, 4350, 2558, 6237, 7139, 2821];
 const CONDUCTANCES: [u64; IONS] = [735, 595, 531, 501, 735, 800, 714, 764];
+const ION_CHARGES: [u64; IONS] = [1, 2, 2, 1, 1, 2, 1, 1];
 const HYDROGEN_CONDUCTANCE: u64 = 3500;
 const ALKALINITY_CONDUCTANCE: u64 = 445;
+/// A percent of a tenth of a µS/cm, in 10^-22 µS/cm: y² is in 10^-9, the plain
+/// sum in 10^-13 µS/cm.
+const PERCENT_OF_TENTH: u64 = 10_000_000_000_000_000_000;
 
-/// Charge of all ions but hydrogen, in u, and their conductivity in 10^-13 µS/cm.
+/// Charge of all ions but hydrogen, in u, their conductivity in 10^-13 µS/cm, and
+/// their ionic strength.
 struct Sums {
     cations: u64,
     anions: u64,
     conductivity: u64,
+    strength: u64,
 }
 
 fn sums(record: &Record, ions: &[u64; IONS]) -> Sums {
     let alkalinity = record.alkalinity * ALKALINITY_CHARGE;
     let mut charges = [0; IONS];
     let mut conductivity = alkalinity * ALKALINITY_CONDUCTANCE;
+    let mut strength = alkalinity;
     for (i, charge) in charges.iter_mut().enumerate() {
         *charge = ions[i] * FACTORS[i] * AMOUNT_CHARGE;
         conductivity += *charge * CONDUCTANCES[i];
+        strength += *charge * ION_CHARGES[i];
     }
     Sums {
         cations: charges[..CATIONS].iter().sum(),
         anions: alkalinity + charges[CATIONS..].iter().sum::<u64>(),
         conductivity,
+        strength,
     }
 }
 
@@ -48,19 +57,16 @@ struct Hydrogen {
 }
 
 /// `low ≤ x ≤ high` for x from `least` to `greatest`, both ends left out where
-/// they differ; `low` and `high` are compared by these two functions.
-fn decide(
-    least: u64,
-    greatest: u64,
-    above: impl Fn(u64) -> i64,
-    below: impl Fn(u64) -> i64,
+/// `open`; `low` and `high` are compared by these two functions, in whole numbers.
+fn decide<T: Copy>(
+    least: T,
+    greatest: T,
+    open: bool,
+    above: impl Fn(T) -> i64,
+    below: impl Fn(T) -> i64,
 ) -> u32 {
-    let outside = if least == greatest {
-        above(least) < 0 || below(least) < 0
-    } else {
-        above(greatest) <= 0 || below(least) <= 0
-    };
-    if outside {
+    let inside = i64::from(open);
+    if above(greatest) < inside || below(least) < inside {
         OUTSIDE
     } else if above(least) >= 0 && below(greatest) >= 0 {
         WITHIN
@@ -85,29 +91,43 @@ fn ion_balance(record: &Record, known: Option<&Sums>, hydrogen: &Hydrogen) -> u3
     decide(
         least,
         least + hydrogen.gap,
+        hydrogen.gap > 0,
         |cations| ((200 + limit) * cations) as i64 - ((200 - limit) * anions) as i64,
         |cations| ((200 + limit) * anions) as i64 - ((200 - limit) * cations) as i64,
     )
 }
 
-fn sign(greater: u64, lesser: u64) -> i64 {
+fn sign(greater: u128, lesser: u128) -> i64 {
     greater.cmp(&lesser) as i64
 }
 
-fn conductivity(record: &Record, known: Option<&Sums>, hydrogen: &Hydrogen) -> u32 {
+fn product(a: u64, b: u64) -> u128 {
+    u128::from(a) * u128::from(b)
+}
+
+fn conductivity(
+    record: &Record,
+    known: Option<&Sums>,
+    hydrogen: &Hydrogen,
+    powers: &[u64; POWERS],
+) -> u32 {
     let Some(sums) = known else { return MISSING };
     let percent: u64 = match record.conductivity {
         0..=100 => 30,
         101..=200 => 20,
         _ => 10,
     };
-    let measured = record.conductivity * 1_000_000_000_000;
     let least = sums.conductivity + hydrogen.floor * HYDROGEN_CONDUCTANCE;
+    let greatest = least + hydrogen.gap * HYDROGEN_CONDUCTANCE;
+    let strength = sums.strength + hydrogen.floor;
+    let (low, high) = activity::bracket(strength, strength + hydrogen.gap, powers);
+    let allowed = |part: u64| product(part * record.conductivity, PERCENT_OF_TENTH);
     decide(
-        least,
-        least + hydrogen.gap * HYDROGEN_CONDUCTANCE,
-        |calculated| sign(100 * calculated, (100 - percent) * measured),
-        |calculated| sign((100 + percent) * measured, 100 * calculated),
+        product(low, least),
+        product(high, greatest),
+        hydrogen.gap > 0,
+        |calculated| sign(calculated, allowed(100 - percent)),
+        |calculated| sign(allowed(100 + percent), calculated),
     )
 }
 
@@ -140,13 +160,13 @@ fn nitrogen(record: &Record) -> u32 {
 
 pub fn verdicts(record: &Record, floors: &Floors) -> [u32; CHECKS] {
     let hydrogen = Hydrogen {
-        floor: floors[(record.p - LEAST_PH) as usize],
+        floor: floors.hydrogen[(record.p - LEAST_PH) as usize],
         gap: u64::from(record.p % 100 != 0),
     };
     let known = record.ions().map(|ions| sums(record, &ions));
     [
         ion_balance(record, known.as_ref(), &hydrogen),
-        conductivity(record, known.as_ref(), &hydrogen),
+        conductivity(record, known.as_ref(), &hydrogen, &floors.powers),
         sodium_chloride(record),
         nitrogen(record),
     ]

@@ -1,5 +1,5 @@
 -- Every case of the table holds: one test for each kind of case, computed over the whole table, and one law that turns it into the case.
-use mathlib.Core.Path.{_≡_, refl, sym, ap, _∙_}
+use mathlib.Core.Path.{_≡_, refl, sym, ap, subst, _∙_}
 use mathlib.Core.Bool.{Bool, true, _&&_, true≢false}
 use mathlib.Core.List.{List, [], _∷_}
 use Prim.Native.Nat.{ℕ, _+_, _^_}
@@ -16,15 +16,16 @@ use Rattle.reading.specs.Readings.{missingFrom, measuredFrom, readingOf}
 use Rattle.reading.specs.Amounts.{Amount, nearest, valueMass, valueAmount}
 use Rattle.reading.specs.Analytes.{massOf, rangeOf}
 use Rattle.record.specs.Record.{sampleNumber, phOf, readAt, readingAt, allBelow, accepted, acceptedRest}
+use Rattle.solution.specs.Solutions.{ionsKnown}
 use Rattle.solution.specs.Ions.{cationFactor, anionFactor, conductance, sum}
-use Rattle.judge.specs.Ranges.{correctionWith, rangesWith}
+use Rattle.judge.specs.Ranges.{rangesWith}
 use Rattle.judge.specs.Corners.{decided}
 use Rattle.judge.specs.IonBalance.{balanceApplies, balanceLimit, ionBalanceOver}
-use Rattle.judge.specs.Conductivity.{conductivityLimit, conductivityOver}
-use Rattle.judge.specs.Judgements.{verdictsOf, judgementOf}
-use Rattle.record.proofs.AcceptedLaws.{Valid, accepted-given}
-use Rattle.judge.proofs.Laws.{valid-judged}
-use Rattle.cases.specs.Cases.{Case, bare, printed, balanceIn, conductivityIn, Holds, cases, Settled}
+use Rattle.judge.specs.Conductivity.{conductivityLimit, conductivityOver, plainCheck, plainVerdict}
+use Rattle.judge.specs.Judgements.{judgementOf}
+use Rattle.record.proofs.AcceptedLaws.{Valid, accepted-given, valid-accepted}
+use Rattle.judge.proofs.Laws.{valid-judged, plain-judged}
+use Rattle.cases.specs.Cases.{Case, bare, printed, balanceIn, plainOf, PlainJudged, Holds, cases, Settled}
 
 -- h is the greatest number whose hundredth power is at most that of H
 abbrev isFloor : ℕ → ℕ → Bool
@@ -60,8 +61,8 @@ floor500 = 10 ^ 10
 abbrev balanceAt : List ℕ → ℕ
 balanceAt s = ionBalanceOver s (rangesWith s floor500)
 
-abbrev conductivityAt : List ℕ → ℕ
-conductivityAt s = conductivityOver s (rangesWith s floor500)
+abbrev plainAt : List ℕ → ℕ
+plainAt s = conductivityOver plainCheck s (rangesWith s floor500)
 
 abbrev nothing : Outcome ℕ
 nothing = given 0
@@ -74,8 +75,8 @@ module _ (s : List ℕ) (t : T (isAccepted s)) where
   rest : T (eqb (phOf s) p500 && isFloor p500 floor500)
   rest = and-r (isGiven (accepted s nothing)) (eqb (phOf s) p500 && isFloor p500 floor500) t
 
-  judged : judgementOf s ≡ given (verdictsOf s)
-  judged = valid-judged s (was-accepted (accepted s nothing) refl (is-true _ (and-l (isGiven (accepted s nothing)) (eqb (phOf s) p500 && isFloor p500 floor500) t)))
+  valid : Valid s
+  valid = was-accepted (accepted s nothing) refl (is-true _ (and-l (isGiven (accepted s nothing)) (eqb (phOf s) p500 && isFloor p500 floor500) t))
     where
       was-accepted : (o : Outcome ℕ) → accepted s nothing ≡ o → isGiven o ≡ true → Valid s
       was-accepted (given x) e h = accepted-given s nothing x e .0
@@ -87,17 +88,21 @@ module _ (s : List ℕ) (t : T (isAccepted s)) where
       ∙ floor-is-at p500 floor500 (and-r (eqb (phOf s) p500) (isFloor p500 floor500) rest)
 
   balance-case : (v : ℕ) → T (eqb (balanceAt s) v) → balanceIn (judgementOf s) ≡ given v
-  balance-case v e = ap balanceIn judged ∙ ap given (rw floor-at (eqb→eq (balanceAt s) v e))
+  balance-case v e = ap balanceIn (valid-judged s valid) ∙ ap given (rw floor-at (eqb→eq (balanceAt s) v e))
 
-  conductivity-case : (v : ℕ) → T (eqb (conductivityAt s) v) → conductivityIn (judgementOf s) ≡ given v
-  conductivity-case v e = ap conductivityIn judged ∙ ap given (rw floor-at (eqb→eq (conductivityAt s) v e))
+  plain-case : (v : ℕ) → T (ionsKnown s && eqb (plainAt s) v) → (plainOf s ≡ given v) × PlainJudged s v
+  plain-case v e =
+      let is : plainVerdict s ≡ v = rw floor-at (eqb→eq (plainAt s) v (and-r (ionsKnown s) (eqb (plainAt s) v) e)) in (
+        valid-accepted s (given (plainVerdict s)) valid ∙ ap given is,
+        subst (PlainJudged s) is (plain-judged s valid (is-true (ionsKnown s) (and-l (ionsKnown s) (eqb (plainAt s) v) e))),
+      )
 
 -- ---- the table
 abbrev test : Case → Bool
 test (Case.floor p h) = inPhRange p && isFloor p h
 test (Case.amount bits m) = isValue (ofBits binary32 bits) && eqb (valueMass (ofBits binary32 bits)) m
 test (Case.balance measured alkalinity v) = isAccepted (bare measured alkalinity) && eqb (balanceAt (bare measured alkalinity)) v
-test (Case.conductivity measured v) = isAccepted (printed measured) && eqb (conductivityAt (printed measured)) v
+test (Case.conductivity measured v) = isAccepted (printed measured) && (ionsKnown (printed measured) && eqb (plainAt (printed measured)) v)
 
 holds : (c : Case) → T (test c) → Holds c
 holds (Case.floor p h) t = floor-case p h t
@@ -107,7 +112,8 @@ holds (Case.balance measured alkalinity v) t =
     balance-case s (and-l (isAccepted s) (eqb (balanceAt s) v) t) v (and-r (isAccepted s) (eqb (balanceAt s) v) t)
 holds (Case.conductivity measured v) t =
     let s : List ℕ = printed measured in
-    conductivity-case s (and-l (isAccepted s) (eqb (conductivityAt s) v) t) v (and-r (isAccepted s) (eqb (conductivityAt s) v) t)
+    let r : Bool = ionsKnown s && eqb (plainAt s) v in
+    plain-case s (and-l (isAccepted s) r t) v (and-r (isAccepted s) r t)
 
 abbrev tests : List Case → Bool
 tests [] = true
@@ -118,5 +124,5 @@ settle [] t = tt
 settle (c ∷ cs) t = (holds c (and-l (test c) (tests cs) t), settle cs (and-r (test c) (tests cs) t))
 
 pub settled : Settled cases
-unfolding cases power inRange valueMass nearest ofBits accepted acceptedRest sampleNumber allBelow readAt readingAt readingOf missingFrom measuredFrom massOf rangeOf correctionWith valueAmount sum cationFactor anionFactor conductance balanceApplies balanceLimit conductivityLimit decided
+unfolding cases power inRange valueMass nearest ofBits accepted acceptedRest sampleNumber allBelow readAt readingAt readingOf missingFrom measuredFrom massOf rangeOf valueAmount sum cationFactor anionFactor conductance balanceApplies balanceLimit conductivityLimit decided
 settled = settle cases tt

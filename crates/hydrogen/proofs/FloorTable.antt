@@ -9,7 +9,7 @@ use lib.Ieee.Fits.{and-l, and-r}
 use borrow.Author.Tests.{eq-eqb}
 use Rattle.hydrogen.specs.Floors.{leastPh, isWhole, WholePh, hundredth, power, floorAt}
 use Rattle.hydrogen.specs.SmallerTable.{tableLength}
-use Rattle.hydrogen.proofs.Entries.{every, at}
+use Rattle.refusal.proofs.Tables.{every, at}
 use Rattle.hydrogen.proofs.Root.{floor-is}
 
 -- the rule as three tests: x to the hundredth is at most the power of H at p, x + 1 to the hundredth is above it, and the first is equal

@@ -1,5 +1,4 @@
 -- The laws behind this crate's contracts. Other crates cite `Laws`, and nothing else of it.
-mod Entries
 mod Powers
 mod Root
 mod HundredLaws
@@ -7,7 +6,6 @@ mod FloorTable
 mod Exact
 mod Rule
 mod RowLaws
-mod MatchLaws
 mod Placing
 mod Order
 pub mod Laws

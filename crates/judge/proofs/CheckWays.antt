@@ -13,7 +13,8 @@ use Rattle.judge.specs.Corners.{decided}
 use Rattle.judge.specs.IonBalance.{balanceApplies, balanceLimit, balanceWindow}
 use Rattle.judge.specs.Conductivity.{conductivityLimit, conductivityWindow}
 use Rattle.judge.specs.Ratios.{sodiumChlorideWindow, nitrogenWindow}
-use Rattle.judge.specs.ByValue.{balanceIn, conductivityIn, ratioIn, nitrogenIn}
+use Rattle.judge.specs.Ranges.{correctionIn}
+use Rattle.judge.specs.ByValue.{correctedBy, balanceIn, conductivityIn, ratioIn, nitrogenIn}
 use Rattle.judge.proofs.MatchLaws.{There, is-missing, is-there}
 
 module _ (kind : ℕ) (carbon : Analyte) (measured : ℕ) (x : SumRanges) where
@@ -38,7 +39,7 @@ module _ (measured : ℕ) (x : SumRanges) where
   conductivity-missing k = rw k
 
   pub conductivity-decided : {v : ℕ} → x .known ≡ true
-      → v ≡ decided (conductivityWindow (conductivityLimit measured)) (x .whole) (x .least .calculated) (x .most .calculated) (x .least .measured) (x .most .measured)
+      → v ≡ correctedBy (correctionIn x) (conductivityWindow (conductivityLimit measured)) x
       → v ≡ conductivityIn measured x
   unfolding conductivityIn
   conductivity-decided k e = rw k e

@@ -1,19 +1,21 @@
 -- The sums that the checks are handed are the corners of the ranges: of each check, the verdict by them is that of its definition.
-use mathlib.Core.Path.{_≡_}
+use mathlib.Core.Path.{_≡_, ap}
 use mathlib.Core.Bool.{Bool, true}
 use mathlib.Core.List.{List}
-use Prim.Native.Nat.{ℕ}
+use Prim.Native.Nat.{ℕ, _*_}
 use native.Mathlib.Omega.{arith}
 use lib.Dec.{lit<}
+use Rattle.activity.specs.Brackets.{unit}
 use Rattle.record.specs.Record.{sodium, chloride, totalNitrogen, conductivityOf, alkalinityOf}
 use Rattle.solution.specs.Ions.{cationCharge, anionCharge}
 use Rattle.solution.specs.Solutions.{SumRanges, sumRangesOf, leastAt, greatestAt, measuredOf}
 use Rattle.judge.specs.declared.window.Window.{Window}
 use Rattle.judge.specs.Corners.{decided, passesOf}
-use Rattle.judge.specs.Ranges.{correctionWith, rangesOf}
+use Rattle.judge.specs.Ranges.{correctionIn, correctionWith, rangesOf}
 use Rattle.judge.specs.IonBalance.{balanceLimit, balanceWindow, balanceCheck}
 use Rattle.judge.specs.Conductivity.{conductivityLimit, conductivityWindow, conductivityCheck}
 use Rattle.judge.specs.Ratios.{sodiumChlorideWindow, sodiumChlorideCheck, nitrogenWindow, nitrogenCheck}
+use Rattle.judge.specs.ByValue.{correctedBy}
 use Rattle.judge.proofs.PartLaws.{no-weight}
 use Rattle.judge.proofs.RatioLaws.{only-sum, mineral-only}
 
@@ -31,10 +33,11 @@ module _ (s : List ℕ) where
   balance-corners = same-corners _ _ (omega arith) (omega arith) (omega arith) (omega arith)
 
   pub conductivity-corners :
-      decided (conductivityWindow (conductivityLimit (conductivityOf s))) (x .whole) (x .least .calculated) (x .most .calculated) (x .least .measured) (x .most .measured)
+      correctedBy (correctionIn x) (conductivityWindow (conductivityLimit (conductivityOf s))) x
       ≡ passesOf (conductivityCheck (conductivityLimit (conductivityOf s)) (alkalinityOf s) (measuredOf (conductivityOf s))) (rangesOf s)
   unfolding correctionWith
-  conductivity-corners = same-corners _ _ (omega arith) (omega arith) (omega (arith, no-weight (leastAt s))) (omega (arith, no-weight (greatestAt s)))
+  conductivity-corners =
+      same-corners _ _ (cc) (cc) (ap (λ (n : ℕ). unit * n) (omega (arith, no-weight (leastAt s)))) (ap (λ (n : ℕ). unit * n) (omega (arith, no-weight (greatestAt s))))
 
   pub ratio-corners :
       decided sodiumChlorideWindow true (x .least .sodium) (x .most .sodium) (x .least .chloride) (x .most .chloride)

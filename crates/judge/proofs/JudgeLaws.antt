@@ -86,7 +86,7 @@ module _ (s : List ℕ) where
   told v e =
       let g = accepted-given s (given (verdictsOf s)) v e in
       let is : verdictsOf s ≡ v = cc (g .1) in
-      subst (Truth s) is (truth s (g .0 .ph .0) (g .0 .ph .1))
+      subst (Truth s) is (truth s (g .0))
 
   refused-is : {own : TestedRecord} {why : Refusal} → OwnTests s own → own .tested ≡ tested.Refused why → judgementOf s ≡ refused (numberOf why)
   unfolding judgementOf

@@ -6,6 +6,9 @@ mod Deciding
 mod Picking
 mod Judging
 mod LimitLaws
+mod RoundingLaws
+mod CorrectionLaws
+mod StrengthLaws
 mod RoomLaws
 mod NearCorners
 mod PartLaws

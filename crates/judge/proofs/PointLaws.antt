@@ -1,6 +1,6 @@
--- Where nothing is left open a verdict by corners is not 3: each reading stands for one amount, the correction is one number, and hydrogen
--- is its floor or plays no part.
-use mathlib.Core.Path.{_≡_, refl, sym, ap, _∙_}
+-- Where nothing is left open a verdict by corners is not 3: each reading stands for one amount, nothing is corrected, and hydrogen is its
+-- floor or plays no part.
+use mathlib.Core.Path.{_≡_, sym, ap, _∙_}
 use mathlib.Core.Bool.{Bool, true, false}
 use mathlib.Core.List.{List}
 use Prim.Native.Nat.{ℕ, _+_, _*_}
@@ -13,7 +13,7 @@ use Rattle.solution.proofs.SumLaws.{sum-same}
 use Rattle.judge.specs.declared.window.Window.{Window}
 use Rattle.judge.specs.Choices.{Ranges, Bracket}
 use Rattle.judge.specs.Corners.{Part, partAt, Check, decided, endsReached, bracketOf, leastFirst, mostFirst, passesOf}
-use Rattle.judge.specs.Ranges.{correctionWith, rangesOf}
+use Rattle.judge.specs.Ranges.{rangesOf}
 use Rattle.judge.proofs.FactorLaws.{added}
 use Rattle.judge.proofs.Deciding.{Decided, deciding}
 
@@ -41,17 +41,13 @@ module _ (s : List ℕ) where
       ap (λ (n : ℕ). p .fixed + n)
       (sum-same (λ i. p .weight i * leastAt s i) (λ i. p .weight i * greatestAt s i) readings (λ i. ap (λ (n : ℕ). p .weight i * n) (one-amount i)))
 
-  one-factor : (corrected : Bool) → bracketOf corrected r .least ≡ bracketOf corrected r .most
-  unfolding correctionWith
-  one-factor true = refl
-  one-factor false = refl
-
-  pub never-undecided : (k : Check) → endsReached k r ≡ true → passesOf k r ≡ 3 → ⊥
-  never-undecided k t =
+  pub never-undecided : (k : Check) → k .corrected ≡ false → endsReached k r ≡ true → passesOf k r ≡ 3 → ⊥
+  never-undecided k n t =
       let f : Bracket = bracketOf (k .corrected) r in
+      let factor : f .least ≡ f .most = rw n in
       let none : gap (endsReached k r) ≡ 0 = ap gap t in
       let first : leastFirst k r ≡ mostFirst k r =
       omega (arith, one-part (k .first), added (k .hydrogen) (r .whole), ap (λ (n : ℕ). k .hydrogen * n) none) in
       still (k .window) (endsReached k r) (f .least * leastFirst k r) (f .most * mostFirst k r)
       (f .unit * partAt (k .second) (leastAt s)) (f .unit * partAt (k .second) (greatestAt s))
-      t (rw (one-factor (k .corrected), first)) (rw (one-part (k .second)))
+      t (rw (factor, first)) (rw (one-part (k .second)))

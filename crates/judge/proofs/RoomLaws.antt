@@ -4,6 +4,7 @@ use Prim.Native.Nat.{ℕ, _+_, _*_, _^_, _≤_, _<_}
 use native.Mathlib.Nat.{le-trans, lt-of-le-of-lt, mul-comm, mul-le-mul}
 use native.Mathlib.Omega.{arith}
 use lib.Dec.{lit<}
+use Rattle.activity.specs.Brackets.{unit}
 use Rattle.solution.specs.Ions.{cationFactor, anionFactor, conductance, sum}
 use Rattle.solution.specs.declared.Solution.{Solution}
 use Rattle.solution.specs.Solutions.{SumRanges, sumRangesIn}
@@ -12,11 +13,14 @@ use Rattle.judge.specs.declared.ratio.Fraction.{Fraction}
 use Rattle.judge.specs.declared.window.Window.{Window}
 use Rattle.judge.specs.Corners.{fraction}
 use Rattle.judge.specs.Classes.{percent, percentOfMean}
-use Rattle.judge.specs.Steps.{Room}
+use Rattle.judge.specs.Ranges.{correctionIn}
+use Rattle.judge.specs.Steps.{toOdd, Room}
 use Rattle.judge.specs.IonBalance.{balanceLimit, balanceWindow}
 use Rattle.judge.specs.Conductivity.{conductivityLimit, conductivityWindow}
 use Rattle.judge.specs.Ratios.{sodiumChlorideWindow, nitrogenWindow}
 use Rattle.judge.proofs.LimitLaws.{balance-most, conductivity-most}
+use Rattle.judge.proofs.RoundingLaws.{rounded, rounded-rises, rounded-near}
+use Rattle.judge.proofs.CorrectionLaws.{correction-ordered, correction-most}
 
 -- no term of a window is above n
 record UpTo (n : ℕ) (w : Window) : Type 0 where
@@ -62,14 +66,21 @@ module _ (x : SumRanges) (b : Bounded x) where
       (record { lowNumerator = omega arith; lowDenominator = omega arith; highNumerator = omega arith; highDenominator = omega arith })
       (b .ordered .cations) (b .most .cations) (b .ordered .anions) (b .most .anions)
 
+  -- corrected and rounded: hardly more than the sum itself
+  corrected-most : correctionIn x .most * x .most .calculated ≤ (unit + 1) * mostSums .calculated
+  corrected-most = mul-le-mul (correction-most x b) (b .most .calculated)
+
   conductivity-room : (measured : ℕ)
-      → Room (conductivityWindow (conductivityLimit measured)) (x .least .calculated) (x .most .calculated) (x .least .measured) (x .most .measured)
+      → Room (conductivityWindow (conductivityLimit measured)) (toOdd (correctionIn x .least * x .least .calculated)) (toOdd (correctionIn x .most * x .most .calculated)) (x .least .measured) (x .most .measured)
   unfolding sum cationFactor anionFactor conductance conductivityLimit
   conductivity-room measured =
       let small = conductivity-most measured in
-      room (percent + conductivityLimit 0) (mostSums .calculated) (mostSums .measured) (lit< tt) (lit< tt)
+      let least = rounded (correctionIn x .least * x .least .calculated) in
+      let most = rounded (correctionIn x .most * x .most .calculated) in
+      room (percent + conductivityLimit 0) (mostSums .calculated + unit) (mostSums .measured) (lit< tt) (lit< tt)
       (record { lowNumerator = omega arith; lowDenominator = omega arith; highNumerator = omega arith; highDenominator = omega arith })
-      (b .ordered .calculated) (b .most .calculated) (b .ordered .measured) (b .most .measured)
+      (rounded-rises least most (mul-le-mul (correction-ordered x b) (b .ordered .calculated))) (omega (arith, rounded-near most, corrected-most))
+      (b .ordered .measured) (b .most .measured)
 
   ratio-room : Room sodiumChlorideWindow (x .least .sodium) (x .most .sodium) (x .least .chloride) (x .most .chloride)
   unfolding cationFactor anionFactor
@@ -90,10 +101,11 @@ module _ (x : Solution) (b : Bounded (sumRangesIn x)) {w : Window} {least most :
       → most ≡ fraction (x .most .cations .0) (x .least .anions .0) → Room w (least .numerator) (most .numerator) (most .denominator) (least .denominator)
   balance-handed measured e f g = rw (e, f, g) (balance-room (sumRangesIn x) b measured)
 
-  pub conductivity-handed : (measured : ℕ) → w ≡ conductivityWindow (conductivityLimit measured)
-      → least ≡ fraction (x .least .calculated .0) (x .most .measured .0)
-      → most ≡ fraction (x .most .calculated .0) (x .least .measured .0) → Room w (least .numerator) (most .numerator) (most .denominator) (least .denominator)
-  conductivity-handed measured e f g = rw (e, f, g) (conductivity-room (sumRangesIn x) b measured)
+  pub conductivity-handed : (measured : ℕ) {n m : ℕ} → w ≡ conductivityWindow (conductivityLimit measured)
+      → n ≡ toOdd (correctionIn (sumRangesIn x) .least * x .least .calculated .0) → m ≡ toOdd (correctionIn (sumRangesIn x) .most * x .most .calculated .0)
+      → least ≡ fraction n (x .most .measured .0)
+      → most ≡ fraction m (x .least .measured .0) → Room w (least .numerator) (most .numerator) (most .denominator) (least .denominator)
+  conductivity-handed measured e n m f g = rw (e, f, g, n, m) (conductivity-room (sumRangesIn x) b measured)
 
   pub ratio-handed : w ≡ sodiumChlorideWindow → least ≡ fraction (x .least .ratio .sodium .0) (x .most .ratio .chloride .0)
       → most ≡ fraction (x .most .ratio .sodium .0) (x .least .ratio .chloride .0) → Room w (least .numerator) (most .numerator) (most .denominator) (least .denominator)

@@ -1,24 +1,26 @@
--- The truth of the four verdicts of every record whose pH is in its range.
+-- The truth of the four verdicts of every accepted record.
 use mathlib.Core.Path.{_≡_, refl, _∙_}
-use mathlib.Core.Bool.{Bool, true}
+use mathlib.Core.Bool.{Bool, true, false}
 use mathlib.Core.List.{List}
 use mathlib.Core.Logic.{_↔_, Iff·rfl, Iff·symm, Iff·trans}
-use Prim.Native.Nat.{ℕ, _≤_, _<_}
+use Prim.Native.Nat.{ℕ, _<_}
 use native.Mathlib.Omega.{arith}
-use Rattle.hydrogen.specs.Floors.{leastPh, greatestPh, isWhole}
+use Rattle.hydrogen.specs.Floors.{isWhole}
 use Rattle.hydrogen.specs.TrueHydrogen.{HydrogenAt}
 use Rattle.hydrogen.proofs.Laws.{hydrogen-at}
 use Rattle.reading.specs.Analytes.{analyteOf}
 use Rattle.reading.proofs.AmountRangeLaws.{range-ordered}
 use Rattle.record.specs.Record.{phOf, conductivityOf, alkalinityOf, readingAt}
-use Rattle.solution.specs.Solutions.{ionsKnown, measuredOf}
+use Rattle.record.proofs.AcceptedLaws.{Valid}
+use Rattle.solution.specs.Solutions.{ionsKnown, measuredOf, sumRangesOf}
+use Rattle.solution.proofs.SolutionLaws.{record-bounded}
 use Rattle.judge.specs.Choices.{Choice, Values, Among}
 use Rattle.judge.specs.AtHydrogen.{Bounds, AtH}
 use Rattle.judge.specs.Verdicts.{Judged, applied}
 use Rattle.judge.specs.Corners.{Check, endsReached, Passes, passesOf}
 use Rattle.judge.specs.Ranges.{correctionWith, rangesOf}
 use Rattle.judge.specs.IonBalance.{balanceAppliesTo, balanceLimit, balanceCheck}
-use Rattle.judge.specs.Conductivity.{conductivityLimit, conductivityCheck}
+use Rattle.judge.specs.Conductivity.{conductivityLimit, conductivityCheck, plainCheck, PlainConductingIn, plainVerdict}
 use Rattle.judge.specs.Ratios.{ratioAppliesTo, ratioKnown, sodiumChlorideCheck, nitrogenAppliesTo, nitrogenKnown, nitrogenCheck}
 use Rattle.judge.specs.Judgements.{verdictsOf}
 use Rattle.judge.specs.Truth.{CheckTruth, HydrogenTruth, Undecided, Truth}
@@ -28,25 +30,34 @@ use Rattle.judge.proofs.Judging.{judged-as, judged-few, says-both}
 use Rattle.judge.proofs.CornerLaws.{Sound, passes-judged, a-choice}
 use Rattle.judge.proofs.BoundLaws.{boundsOf, passes-bounds}
 use Rattle.judge.proofs.AtHydrogenLaws.{Tells, located, passes-tells}
+use Rattle.judge.proofs.CorrectionLaws.{correction-some, correction-ordered}
+use Rattle.judge.proofs.StrengthLaws.{activity-truth}
 use Rattle.judge.proofs.PointLaws.{never-undecided}
 use Rattle.judge.proofs.Applying.{applied-0, applied-4, applied-is}
 use Rattle.judge.proofs.LimitLaws.{balance-limit, conductivity-limit}
 use Rattle.judge.proofs.BalanceLaws.{balance-sound, balance-passes, balance-bounds}
-use Rattle.judge.proofs.ConductivityLaws.{conductivity-sound, conductivity-passes, conductivity-bounds}
+use Rattle.judge.proofs.ConductivityLaws.{conductivity-sound, conductivity-passes, plain-passes, conductivity-bounds}
 use Rattle.judge.proofs.RatioLaws.{ratio-sound, ratio-passes, nitrogen-sound, nitrogen-passes}
 
 -- what a record leaves open is never empty
-proper : (s : List ℕ) → Proper (rangesOf s)
+proper : (s : List ℕ) → Valid s → Proper (rangesOf s)
 unfolding correctionWith
-proper s = record { ordered = λ i. range-ordered (analyteOf (readingAt s i)); unit = omega arith; some = omega arith; bracket = omega arith }
+proper s valid =
+    let b = record-bounded s valid in
+    record {
+      ordered = λ i. range-ordered (analyteOf (readingAt s i));
+      unit = omega arith;
+      some = correction-some (sumRangesOf s) b;
+      bracket = correction-ordered (sumRangesOf s) b;
+    }
 
 -- a check of two sums that says of each choice what Holds says
-module _ (s : List ℕ) (applies known : Bool) (k : Check) (o : Sound k) {Holds : Choice → Type 0} (same : (c : Choice) → Passes k c ↔ Holds c) where
+module _ (s : List ℕ) (valid : Valid s) (applies known : Bool) (k : Check) (o : Sound k) {Holds : Choice → Type 0} (same : (c : Choice) → Passes k c ↔ Holds c) where
   abbrev v : ℕ
   v = passesOf k (rangesOf s)
 
   judged : Judged Choice (Among (rangesOf s)) Holds v
-  judged = judged-as same (passes-judged k o (rangesOf s) (proper s))
+  judged = judged-as same (passes-judged k o (rangesOf s) (proper s valid))
 
   -- a verdict from 1 to 3 is that of the corners
   own : (n : ℕ) → (0 < n) × (n < 4) → applied applies known v ≡ n → v ≡ n
@@ -63,16 +74,16 @@ module _ (s : List ℕ) (applies known : Bool) (k : Check) (o : Sound k) {Holds 
         undecided = (λ e. let u = both .0 e in (u .0, u .1, u .2 .0, u .2 .1), λ e. both .1 (e .0, e .1, (e .2, e .3)));
       }
 
-  -- where hydrogen plays no part, or is its floor, it is not 3
-  not-undecided : endsReached k (rangesOf s) ≡ true → applied applies known v ≡ 3 → ⊥
-  not-undecided t e = never-undecided s k t (own 3 (omega arith) e)
+  -- uncorrected, where hydrogen plays no part, or is its floor, it is not 3
+  not-undecided : k .corrected ≡ false → endsReached k (rangesOf s) ≡ true → applied applies known v ≡ 3 → ⊥
+  not-undecided n t e = never-undecided s k n t (own 3 (omega arith) e)
 
   module _ (counts : 0 < k .hydrogen) where
     -- elsewhere both outcomes occur at a fraction for hydrogen
-    undecided-at : (applied applies known v ≡ 3) ↔ Undecided s applies known Holds
-    undecided-at =
+    undecided-at : k .corrected ≡ false → (applied applies known v ≡ 3) ↔ Undecided s applies known Holds
+    undecided-at n =
         let both = check-truth .undecided in (
-          λ e. let u = both .0 e in (u .0, u .1, λ z. not-undecided (counting (k .hydrogen) (isWhole (phOf s)) counts ∙ z) e, u .2, u .3),
+          λ e. let u = both .0 e in (u .0, u .1, λ z. not-undecided n (counting (k .hydrogen) (isWhole (phOf s)) counts ∙ z) e, u .2, u .3),
           λ e. both .1 (e .0, e .1, e .3, e .4),
         )
 
@@ -80,7 +91,7 @@ module _ (s : List ℕ) (applies known : Bool) (k : Check) (o : Sound k) {Holds 
       -- 1 and 2 are true of H
       told : (c : Choice) → Values (rangesOf s) c → Tells (AtH (phOf s) (boundsAt c)) v
       told c a =
-          rw (are c) at (passes-tells k o counts (rangesOf s) (proper s) (phOf s) (w .ordered) c a (located (phOf s) w (isWhole (phOf s)) refl))
+          rw (are c) at (passes-tells k o counts (rangesOf s) (proper s valid) (phOf s) (w .ordered) c a (located (phOf s) w (isWhole (phOf s)) refl))
 
       hydrogen-truth : HydrogenTruth s Holds boundsAt (applied applies known v)
       hydrogen-truth =
@@ -90,9 +101,18 @@ module _ (s : List ℕ) (applies known : Bool) (k : Check) (o : Sound k) {Holds 
             outside = λ e c a. told c a .outside (own 2 (omega arith) e);
           }
 
-pub truth : (s : List ℕ) → leastPh ≤ phOf s → phOf s ≤ greatestPh → Truth s (verdictsOf s)
-truth s l u =
-    let w : HydrogenAt (phOf s) = hydrogen-at (phOf s) l u in
+-- the verdict of the plain sum is that of document 01's inequality without y²
+pub plain-judged : (s : List ℕ) → Valid s → ionsKnown s ≡ true → Judged Choice (Among (rangesOf s)) (PlainConductingIn s) (plainVerdict s)
+plain-judged s valid k =
+    let M : ℕ = conductivityLimit (conductivityOf s) in
+    let t : ℕ = alkalinityOf s in
+    let CM : ℕ = measuredOf (conductivityOf s) in
+    let c = conductivity-limit (conductivityOf s) in
+    check-truth s valid true (ionsKnown s) (plainCheck M t CM) (conductivity-sound M t CM c false) (plain-passes M t CM c) .judged refl k
+
+pub truth : (s : List ℕ) → Valid s → Truth s (verdictsOf s)
+truth s valid =
+    let w : HydrogenAt (phOf s) = hydrogen-at (phOf s) (valid .ph .0) (valid .ph .1) in
     let L : ℕ = balanceLimit (conductivityOf s) in
     let M : ℕ = conductivityLimit (conductivityOf s) in
     let t : ℕ = alkalinityOf s in
@@ -100,22 +120,22 @@ truth s l u =
     let b = balance-limit (conductivityOf s) in
     let c = conductivity-limit (conductivityOf s) in
     let b-sound : Sound (balanceCheck L t) = balance-sound L t b in
-    let c-sound : Sound (conductivityCheck M t CM) = conductivity-sound M t CM c in
+    let c-sound : Sound (conductivityCheck M t CM) = conductivity-sound M t CM c true in
     record {
-      balance = check-truth s (balanceAppliesTo s) (ionsKnown s) (balanceCheck L t) b-sound (balance-passes L t b);
-      conductivity = check-truth s true (ionsKnown s) (conductivityCheck M t CM) c-sound (conductivity-passes M t CM c);
-      ratio = check-truth s (ratioAppliesTo s) (ratioKnown s) sodiumChlorideCheck ratio-sound ratio-passes;
-      nitrogen = check-truth s (nitrogenAppliesTo s) (nitrogenKnown s) nitrogenCheck nitrogen-sound nitrogen-passes;
+      balance = check-truth s valid (balanceAppliesTo s) (ionsKnown s) (balanceCheck L t) b-sound (balance-passes L t b);
+      conductivity = check-truth s valid true (ionsKnown s) (conductivityCheck M t CM) c-sound (conductivity-passes M t CM c);
+      ratio = check-truth s valid (ratioAppliesTo s) (ratioKnown s) sodiumChlorideCheck ratio-sound ratio-passes;
+      nitrogen = check-truth s valid (nitrogenAppliesTo s) (nitrogenKnown s) nitrogenCheck nitrogen-sound nitrogen-passes;
       balanceAtH =
-          hydrogen-truth s (balanceAppliesTo s) (ionsKnown s) (balanceCheck L t) b-sound (balance-passes L t b) (omega arith) w (balance-bounds L t b);
+          hydrogen-truth s valid (balanceAppliesTo s) (ionsKnown s) (balanceCheck L t) b-sound (balance-passes L t b) (omega arith) w (balance-bounds L t b);
       conductivityAtH =
-          hydrogen-truth s true (ionsKnown s) (conductivityCheck M t CM) c-sound (conductivity-passes M t CM c) (omega arith) w (conductivity-bounds M t CM c);
-      choice = a-choice nitrogenCheck nitrogen-sound (rangesOf s) (proper s);
+          hydrogen-truth s valid true (ionsKnown s) (conductivityCheck M t CM) c-sound (conductivity-passes M t CM c) (omega arith) w (conductivity-bounds M t CM c);
+      activity = activity-truth s valid;
+      choice = a-choice nitrogenCheck nitrogen-sound (rangesOf s) (proper s valid);
       alone =
           record {
-            balance = undecided-at s (balanceAppliesTo s) (ionsKnown s) (balanceCheck L t) b-sound (balance-passes L t b) (omega arith);
-            conductivity = undecided-at s true (ionsKnown s) (conductivityCheck M t CM) c-sound (conductivity-passes M t CM c) (omega arith);
-            ratio = not-undecided s (ratioAppliesTo s) (ratioKnown s) sodiumChlorideCheck ratio-sound ratio-passes refl;
-            nitrogen = not-undecided s (nitrogenAppliesTo s) (nitrogenKnown s) nitrogenCheck nitrogen-sound nitrogen-passes refl;
+            balance = undecided-at s valid (balanceAppliesTo s) (ionsKnown s) (balanceCheck L t) b-sound (balance-passes L t b) (omega arith) refl;
+            ratio = not-undecided s valid (ratioAppliesTo s) (ratioKnown s) sodiumChlorideCheck ratio-sound ratio-passes refl refl;
+            nitrogen = not-undecided s valid (nitrogenAppliesTo s) (nitrogenKnown s) nitrogenCheck nitrogen-sound nitrogen-passes refl refl;
           };
     }

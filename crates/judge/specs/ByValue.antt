@@ -3,7 +3,7 @@
 -- (`Judgements.judgementOf`), as a law says. A check takes its sums from `solution`, which gives none to fields that no record has: then
 -- no ion is known, and every sum is 0.
 use mathlib.Core.Bool.{true, _&&_}
-use Prim.Native.Nat.{ℕ}
+use Prim.Native.Nat.{ℕ, _*_}
 use Rattle.refusal.specs.Outcome.{Outcome}
 use Rattle.refusal.specs.Outcome.Outcome.{given, refused}
 use Rattle.reading.specs.declared.Analyte.{Analyte}
@@ -12,12 +12,20 @@ use Rattle.record.specs.Record.{ammonium, sodium, nitrate, chloride, totalNitro
 use Rattle.record.specs.Tested.{Fields, TestedTerms, analyteAt}
 use Rattle.solution.specs.Solutions.{SumRanges}
 use Rattle.solution.specs.ByValue.{sumRangesBy}
+use Rattle.judge.specs.declared.window.Window.{Window}
 use Rattle.judge.specs.Verdicts.{applied}
+use Rattle.judge.specs.Choices.{Bracket}
 use Rattle.judge.specs.Corners.{decided}
+use Rattle.judge.specs.Ranges.{correctionIn}
 use Rattle.judge.specs.IonBalance.{balanceApplies, balanceLimit, balanceWindow}
 use Rattle.judge.specs.Conductivity.{conductivityLimit, conductivityWindow}
 use Rattle.judge.specs.Ratios.{ratioApplies, sodiumChlorideWindow, nitrogenWindow}
 use Rattle.judge.specs.Judgements.{Four}
+
+-- the verdict on conductivity by a window and a bracket of y²
+abbrev pub correctedBy : Bracket → Window → SumRanges → ℕ
+correctedBy b w x =
+    decided w (x .whole) (b .least * x .least .calculated) (b .most * x .most .calculated) (b .unit * x .least .measured) (b .unit * x .most .measured)
 
 -- each check by what it looks at, and the sums: kind, organic carbon and measured conductivity; measured conductivity alone; kind,
 -- sodium and chloride; total nitrogen, nitrate and ammonium
@@ -27,9 +35,7 @@ balanceIn kind carbon measured x =
     (decided (balanceWindow (balanceLimit measured)) (x .whole) (x .least .cations) (x .most .cations) (x .least .anions) (x .most .anions))
 
 unfoldable pub conductivityIn : ℕ → SumRanges → ℕ
-conductivityIn measured x =
-    applied true (x .known)
-    (decided (conductivityWindow (conductivityLimit measured)) (x .whole) (x .least .calculated) (x .most .calculated) (x .least .measured) (x .most .measured))
+conductivityIn measured x = applied true (x .known) (correctedBy (correctionIn x) (conductivityWindow (conductivityLimit measured)) x)
 
 unfoldable pub ratioIn : ℕ → Analyte → Analyte → SumRanges → ℕ
 ratioIn kind na cl x =

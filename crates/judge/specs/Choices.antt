@@ -1,8 +1,8 @@
--- Document 01, 'The four checks': what a record leaves open, and every choice of values among it; in a form that has room for what
--- document 02 (v) and (vi) leave open beside hydrogen.
+-- Document 01, 'The four checks', and document 02 (v): what a record leaves open, and every choice of values among it; in a form that has
+-- room for what document 02 (vi) leaves open beside hydrogen and y².
 -- At a pH that is no multiple of 100 hydrogen is every fraction strictly between h and h + 1; elsewhere it is h. Each amount lies
 -- between a least and a greatest one, both included: (vi) will have ranges, until then the two are the same. A sum may be corrected,
--- that is multiplied by a fraction between two: (v) will have y², until then it is 1.
+-- that is multiplied by every fraction between two, both included: y² of (v), which is chosen apart from hydrogen.
 use mathlib.Core.Path.{_≡_}
 use mathlib.Core.Bool.{Bool, true, false}
 use Prim.Native.Nat.{ℕ, _+_, _*_, _≤_, _<_}

@@ -1,9 +1,13 @@
--- Demand 3 on verdicts, for every record: what each verdict is worth, by every choice of what the record leaves open and at true hydrogen.
+-- Demand 3 on verdicts, for every record, as document 02 (v) restates it for conductivity: what each verdict is worth, by every choice of
+-- what the record leaves open and at true hydrogen.
 use mathlib.Core.Path.{_≡_}
 use mathlib.Core.Bool.{Bool, true, false}
 use mathlib.Core.List.{List}
 use mathlib.Core.Logic.{_↔_}
-use Prim.Native.Nat.{ℕ}
+use Prim.Native.Nat.{ℕ, _*_, _≤_}
+use Rattle.activity.specs.Strength.{strongest}
+use Rattle.activity.specs.Brackets.{unit}
+use Rattle.activity.specs.Truth.{TrueAtLeast, TrueAtMost}
 use Rattle.hydrogen.specs.Floors.{WholePh}
 use Rattle.record.specs.Record.{phOf, conductivityOf, alkalinityOf}
 use Rattle.solution.specs.Solutions.{ionsKnown, measuredOf}
@@ -12,11 +16,12 @@ use Rattle.judge.specs.Verdicts.{Judged}
 use Rattle.judge.specs.AtHydrogen.{Bounds, AtH, AtFraction}
 use Rattle.judge.specs.Ranges.{rangesOf}
 use Rattle.judge.specs.IonBalance.{balanceAppliesTo, balanceLimit, Balanced, balanceBounds}
-use Rattle.judge.specs.Conductivity.{conductivityLimit, Conducting, conductivityBounds}
+use Rattle.judge.specs.Conductivity.{conductivityLimit, Conducting, strengthOf, conductivityBounds}
 use Rattle.judge.specs.Ratios.{ratioAppliesTo, ratioKnown, SodiumChloride, nitrogenAppliesTo, nitrogenKnown, Nitrogen}
 use Rattle.judge.specs.Judgements.{Four}
 
--- P occurs among the choices that the record leaves: at a fraction strictly between h and h + 1 where p is no multiple of 100
+-- P occurs among the choices that the record leaves: at a fraction strictly between h and h + 1 where p is no multiple of 100, and with a y²
+-- of its bracket
 abbrev pub Occurs : List ℕ → (Choice → Type 0) → Type 0
 Occurs s P = (c : Choice) × (Among (rangesOf s) c × P c)
 
@@ -26,13 +31,14 @@ pub record CheckTruth (s : List ℕ) (applies known : Bool) (Holds : Choice → 
   pub not-applicable : (v ≡ 0) ↔ (applies ≡ false)
   pub missing : (v ≡ 4) ↔ ((applies ≡ true) × (known ≡ false))
   -- '1 if the inequality holds for every fraction strictly between h and h + 1, 2 if for none, else 3', by h where p is a multiple of 100.
-  -- Of Na/Cl and nitrogen, in which hydrogen plays no part: by the record's amounts, which are the same in every choice
+  -- Of conductivity, document 02 (v): 'for every hydrogen of 01's rule with every y² in its bracket', 'for none; else undecided, also at whole
+  -- pH'. Of Na/Cl and nitrogen, in which neither plays a part: by the record's amounts, which are the same in every choice
   pub judged : applies ≡ true → known ≡ true → Judged Choice (Among (rangesOf s)) Holds v
   -- so 'undecided' exactly when 'the check applies, nothing needed is missing' and both outcomes occur
   pub undecided : (v ≡ 3) ↔ ((applies ≡ true) × (known ≡ true) × Occurs s Holds × Occurs s (λ c. Holds c → ⊥))
 
--- of ion balance and conductivity in addition: the bounds that the inequality sets for H at a choice of amounts and of a correction,
--- whatever its hydrogen
+-- of ion balance and conductivity in addition: the bounds that the inequality sets for H at a choice of amounts and of y², whatever its
+-- hydrogen
 pub record HydrogenTruth (s : List ℕ) (Holds : Choice → Type 0) (boundsAt : Choice → Bounds) (v : ℕ) : Type 0 where
   -- the inequality at a fraction for hydrogen is that the fraction keeps the bounds
   pub bounds : (c : Choice) → Values (rangesOf s) c → Holds c ↔ AtFraction (c .hydrogen) (c .divisor) (boundsAt c)
@@ -52,14 +58,23 @@ BalancedIn s = Balanced (balanceLimit (conductivityOf s)) (alkalinityOf s)
 abbrev pub ConductingIn : List ℕ → Choice → Type 0
 ConductingIn s = Conducting (conductivityLimit (conductivityOf s)) (alkalinityOf s) (measuredOf (conductivityOf s))
 
--- what holds as long as hydrogen alone is left open: each reading stands for one amount, and nothing is corrected
+-- what holds as long as each reading stands for one amount. Conductivity has y² besides, and is undecided as its `CheckTruth` says
 pub record HydrogenAlone (s : List ℕ) (v : Four) : Type 0 where
   pub balance : (v .balance ≡ 3) ↔ Undecided s (balanceAppliesTo s) (ionsKnown s) (BalancedIn s)
-  pub conductivity : (v .conductivity ≡ 3) ↔ Undecided s true (ionsKnown s) (ConductingIn s)
   -- Na/Cl and nitrogen are never undecided; so, by `judged`, within exactly where the inequality holds at the record's amounts, and
   -- outside exactly where it fails
   pub ratio : v .ratio ≡ 3 → ⊥
   pub nitrogen : v .nitrogen ≡ 3 → ⊥
+
+-- document 02 (v): 'then 10^9 y² lies between' the ends of the bracket, at every choice: y² by the root of the choice's own ionic strength.
+-- True hydrogen lies between the hydrogens of two choices, so y² at it lies there too
+pub record ActivityTruth (s : List ℕ) : Type 0 where
+  pub over : (c : Choice) → Among (rangesOf s) c → TrueAtLeast (strengthOf (alkalinityOf s) c) (c .divisor) (rangesOf s .correction .least)
+  pub under : (c : Choice) → Among (rangesOf s) c → TrueAtMost (strengthOf (alkalinityOf s) c) (c .divisor) (rangesOf s .correction .most)
+  -- the ends are whole numbers of billionths
+  pub billionths : rangesOf s .correction .unit ≡ unit
+  -- no choice is stronger than 0.08 mol/L: s is below a half, as far as `under` speaks of it and e is said to grow
+  pub weak : (c : Choice) → Among (rangesOf s) c → strengthOf (alkalinityOf s) c ≤ strongest * c .divisor
 
 -- the four verdicts of an accepted record
 pub record Truth (s : List ℕ) (v : Four) : Type 0 where
@@ -72,6 +87,7 @@ pub record Truth (s : List ℕ) (v : Four) : Type 0 where
   pub balanceAtH : HydrogenTruth s (BalancedIn s) (balanceBounds (balanceLimit (conductivityOf s)) (alkalinityOf s)) (v .balance)
   pub conductivityAtH :
       HydrogenTruth s (ConductingIn s) (conductivityBounds (conductivityLimit (conductivityOf s)) (alkalinityOf s) (measuredOf (conductivityOf s))) (v .conductivity)
+  pub activity : ActivityTruth s
   -- there is a choice, so that 'every' and 'none' are never both true
   pub choice : (c : Choice) × Among (rangesOf s) c
   pub alone : HydrogenAlone s v

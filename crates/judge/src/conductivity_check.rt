@@ -1,12 +1,14 @@
-// The conductivity that the ions account for, against the measured one.
+// The conductivity that the ions account for, corrected for their strength, against the measured one.
 use crate::Verdict;
 use crate::classes::LOW_CONDUCTIVITY;
 use crate::classes::MEDIUM_CONDUCTIVITY;
 use crate::classes::PERCENT;
+use crate::corrected;
 use crate::ratio;
 use crate::ratio::Fraction;
 use crate::window;
 use crate::window::Window;
+use activity::Correction;
 use solution::Solution;
 ghost use mathlib.Core.Path.{_≡_};
 ghost use Prim.Native.Nat.{_≤_};
@@ -17,7 +19,8 @@ ghost use Rattle.judge.specs.ByValue.{conductivityIn};
 ghost use Rattle.judge.specs.Classes.{percent};
 ghost use Rattle.judge.specs.Conductivity.{conductivityLimit, conductivityWindow};
 
-// The check of a record, by its measured conductivity in tenths of µS/cm and its solution.
+// The check of a record, by its measured conductivity in tenths of µS/cm and its solution. No record is too strong for a bracket
+// of y², so the answer to that is never given.
 pub fn of_record(measured: u32, solution: Solution) -> Verdict
     requires { ⌜ Bounded (sumRangesIn solution) ⌝ }
     ensures { λ r. ⌜ verdictNumber r ≡ conductivityIn measured (sumRangesIn solution) ⌝ }
@@ -25,8 +28,18 @@ pub fn of_record(measured: u32, solution: Solution) -> Verdict
     if !solution.known {
         return Verdict::Missing;
     }
-    let least = ratio::of_conductivities(solution.least.calculated, solution.most.measured);
-    let most = ratio::of_conductivities(solution.most.calculated, solution.least.measured);
+    let correction = activity::bracket(solution.least.strength, solution.most.strength);
+    let Correction::Between {
+        least: lower,
+        most: upper,
+    } = correction
+    else {
+        return Verdict::Undecided;
+    };
+    let smallest = corrected::times(lower, solution.least.calculated);
+    let largest = corrected::times(upper, solution.most.calculated);
+    let least = ratio::of_conductivities(smallest, solution.most.measured);
+    let most = ratio::of_conductivities(largest, solution.least.measured);
     window::decide(window_at(measured), solution.whole, least, most)
 }
 

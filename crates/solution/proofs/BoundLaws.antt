@@ -9,7 +9,7 @@ use Rattle.reading.specs.Amounts.{mostMass}
 use Rattle.reading.proofs.AmountRangeLaws.{range-ordered}
 use Rattle.record.specs.Record.{readings, ammonium, sodium, nitrate, chloride, totalNitrogen, mostConductivity, mostAlkalinity}
 use Rattle.record.specs.Tested.{Fields, analyteAt}
-use Rattle.solution.specs.Ions.{cationCharge, anionCharge, conducted, hydrogenConductance, alkalinityConductance, alkalinityUnit, sum}
+use Rattle.solution.specs.Ions.{cationCharge, anionCharge, conducted, strengthAdded, hydrogenConductance, hydrogenChargeNumber, alkalinityConductance, alkalinityChargeNumber, alkalinityUnit, sum}
 use Rattle.solution.specs.Solutions.{gap, measuredUnit, Sums, sumsWith}
 use Rattle.solution.specs.ByValue.{amountAt, sumsHeld, sumRangesHeld, noSums, noSumRanges, inRanges, sumRangesBy}
 use Rattle.solution.specs.Steps.{mostHydrogen, Ranged, AtMost, mostSums, Bounded, Fits}
@@ -21,7 +21,7 @@ module _ (a b : ℕ → ℕ) (rise : (i : ℕ) → i < readings → a i ≤ b i)
   weighed : (w : ℕ → ℕ) → sum (λ i. w i * a i) readings ≤ sum (λ i. w i * b i) readings
   weighed w = sum-le (λ i. w i * a i) (λ i. w i * b i) readings (λ i l. mul-le-mul-left (w i) (rise i l))
 
-  sums-rise : (h k t u m n : ℕ) → h ≤ k → t ≤ u → m ≤ n → AtMost (sumsWith a h t m) (sumsWith b k u n)
+  pub sums-rise : (h k t u m n : ℕ) → h ≤ k → t ≤ u → m ≤ n → AtMost (sumsWith a h t m) (sumsWith b k u n)
   sums-rise h k t u m n p q r =
       let alkalinity = mul-le-mul-right alkalinityUnit q in
       record {
@@ -29,6 +29,7 @@ module _ (a b : ℕ → ℕ) (rise : (i : ℕ) → i < readings → a i ≤ b i)
         anions = add-le-add alkalinity (weighed anionCharge);
         calculated = add-le-add (mul-le-mul-left hydrogenConductance p) (add-le-add (mul-le-mul-left alkalinityConductance alkalinity) (weighed conducted));
         measured = mul-le-mul-right measuredUnit r;
+        strength = add-le-add (mul-le-mul-left hydrogenChargeNumber p) (add-le-add (mul-le-mul-left alkalinityChargeNumber alkalinity) (weighed strengthAdded));
         sodium = mul-le-mul-left (cationCharge sodium) (rise sodium (omega arith));
         chloride = mul-le-mul-left (anionCharge chloride) (rise chloride (omega arith));
         mineral = add-le-add (rise nitrate (omega arith)) (rise ammonium (omega arith));
@@ -48,6 +49,7 @@ end-fits f greatest hydrogen r =
     record {
       charges = lt-of-le-of-lt (add-le-add (b .cations) (b .anions)) (most-fits .charges);
       calculated = lt-of-le-of-lt (b .calculated) (most-fits .calculated);
+      strength = lt-of-le-of-lt (b .strength) (most-fits .strength);
     }
 
 -- less hydrogen is in range too
@@ -66,6 +68,8 @@ held-bounded f floor r =
           sums-rise (amountAt false (f .analytes)) (amountAt true (f .analytes)) (λ i l. range-ordered (analyteAt (f .analytes) i))
           floor _ (f .alkalinity) (f .alkalinity) (f .conductivity) (f .conductivity) (omega arith) (le-refl _) (le-refl _);
       most = end-most f true _ (less-ranged f _ (floor + 1) (omega arith) r);
+      leastTenths = omega arith;
+      mostTenths = omega arith;
     }
 
 none-most : (x : Sums) → AtMost noSums x
@@ -75,6 +79,7 @@ none-most x =
       anions = zero-le;
       calculated = zero-le;
       measured = zero-le;
+      strength = zero-le;
       sodium = zero-le;
       chloride = zero-le;
       mineral = zero-le;
@@ -82,7 +87,7 @@ none-most x =
     }
 
 none-bounded : Bounded noSumRanges
-none-bounded = record { ordered = none-most noSums; most = none-most mostSums }
+none-bounded = record { ordered = none-most noSums; most = none-most mostSums; leastTenths = refl; mostTenths = refl }
 
 -- of any fields
 pub ranges-bounded : (f : Fields) (floor : ℕ) → Bounded (sumRangesBy f floor)

@@ -9,18 +9,19 @@ use lib.Dec.{lit<}
 use Rattle.reading.specs.declared.Analyte.{Analyte}
 use Rattle.reading.specs.Amounts.{mostMass}
 use Rattle.record.specs.Record.{ions, readings, totalNitrogen, organicCarbon}
+use Rattle.activity.specs.declared.IonicStrength.{IonicStrength}
 use Rattle.solution.specs.declared.Charge.{Charge}
 use Rattle.solution.specs.declared.Conductivity.{Conductivity}
 use Rattle.solution.specs.declared.ions.Row.{Row}
 use Rattle.solution.specs.declared.ions.Ion.{Ion}
-use Rattle.solution.specs.Ions.{chargeUnit, cationFactor, anionFactor, conductance, cationCharge, anionCharge, conducted, sum}
+use Rattle.solution.specs.Ions.{chargeUnit, cationFactor, anionFactor, conductance, chargeNumber, cationCharge, anionCharge, conducted, strengthAdded, sum}
 use Rattle.solution.specs.ByValue.{amountAt}
 use Rattle.solution.specs.Steps.{Small, RowOf, Adds, mostSums, Fits}
 use Rattle.solution.proofs.SumLaws.{sum-part}
 
--- what an ion conducts by both columns
-conducts : (i m : ℕ) → conductance i * (cationCharge i * m + anionCharge i * m) ≡ conducted i * m
-conducts i m = ap (λ (x : ℕ). conductance i * x) (sym (add-mul (cationCharge i) (anionCharge i) m)) ∙ sym (mul-assoc (conductance i) (cationCharge i + anionCharge i) m)
+-- what each u of an ion adds c times, by both columns
+by-both : (c i m : ℕ) → c * (cationCharge i * m + anionCharge i * m) ≡ c * (cationCharge i + anionCharge i) * m
+by-both c i m = ap (λ (x : ℕ). c * x) (sym (add-mul (cationCharge i) (anionCharge i) m)) ∙ sym (mul-assoc c (cationCharge i + anionCharge i) m)
 
 -- ---- total nitrogen and organic carbon have no weight
 ions-only : (w a : ℕ → ℕ) → w totalNitrogen ≡ 0 → w organicCarbon ≡ 0 → sum (λ i. w i * a i) readings ≡ sum (λ i. w i * a i) ions
@@ -40,10 +41,14 @@ module _ (a : ℕ → ℕ) where
   unfolding cationFactor anionFactor conductance
   conducted-only = ions-only conducted a refl refl
 
+  pub strength-only : sum (λ i. strengthAdded i * a i) readings ≡ sum (λ i. strengthAdded i * a i) ions
+  unfolding cationFactor anionFactor chargeNumber
+  strength-only = ions-only strengthAdded a refl refl
+
 -- ---- the greatest sums: of the table with every amount at its greatest. The one test that they fit, computed from these
 pub most-fits : Fits mostSums
-unfolding sum cationFactor anionFactor conductance
-most-fits = record { charges = lit< tt; calculated = lit< tt }
+unfolding sum cationFactor anionFactor conductance chargeNumber
+most-fits = record { charges = lit< tt; calculated = lit< tt; strength = lit< tt }
 
 -- no part of a weighed sum is above its greatest: an amount of one ion, a sum so far with the next ion's, and the whole sum
 module _ (w : ℕ → ℕ) where
@@ -62,13 +67,14 @@ charged : (f x y m : ℕ) → y ≡ f → x ≡ chargeUnit * (y * m) → x ≡ c
 charged f x y m e p = rw e at p ∙ sym (mul-assoc chargeUnit f m)
 
 module _ (i m : ℕ) (l : i < ions) (small : m ≤ mostMass) {row : Row} (is : RowOf i row) where
-  fits : (cationCharge i * m + anionCharge i * m < 2 ^ 64) × (conducted i * m < 2 ^ 64)
+  fits : (cationCharge i * m + anionCharge i * m < 2 ^ 64) × (conducted i * m < 2 ^ 64) × (strengthAdded i * m < 2 ^ 64)
   fits =
       let most = most-fits in
       let C = one-most cationCharge i m (omega arith) small in
       let A = one-most anionCharge i m (omega arith) small in
       let E = one-most conducted i m (omega arith) small in
-      (omega arith, omega arith)
+      let I = one-most strengthAdded i m (omega arith) small in
+      (omega arith, omega arith, omega arith)
 
   pub cation-fits : chargeUnit * (row .cation * m) < 2 ^ 64
   cation-fits = rw (is .cation) (omega (arith, fits .0))
@@ -84,19 +90,23 @@ module _ (i m : ℕ) (l : i < ions) (small : m ≤ mostMass) {row : Row} (is : R
     both-fit = rw both (fits .0)
 
     module _ {charge : Charge} (q : charge .0 ≡ cation .0 + anion .0) where
-      conducting : row .conductance * charge .0 ≡ conducted i * m
-      conducting = rw (is .conductance, q ∙ both) (conducts i m)
+      times : {c d : ℕ} → c ≡ d → c * charge .0 ≡ d * (cationCharge i + anionCharge i) * m
+      times {c} {d} e = rw (e, q ∙ both) (by-both d i m)
 
       pub conducting-fits : row .conductance * charge .0 < 2 ^ 64
-      conducting-fits = rw conducting (fits .1)
+      conducting-fits = rw (times (is .conductance)) (fits .1)
 
-      pub adds : {conductivity : Conductivity} → conductivity .0 ≡ row .conductance * charge .0
-          → Adds i m (record { cation = cation; anion = anion; conductivity = conductivity })
-      adds e =
+      pub strength-fits : row .number * charge .0 < 2 ^ 64
+      strength-fits = rw (times (is .number)) (fits .2)
+
+      pub adds : {conductivity : Conductivity} {strength : IonicStrength} → conductivity .0 ≡ row .conductance * charge .0 → strength .0 ≡ row .number * charge .0
+          → Adds i m (record { cation = cation; anion = anion; conductivity = conductivity; strength = strength })
+      adds e f =
           record {
             cation = charged (cationFactor i) (cation .0) (row .cation) m (is .cation) c;
             anion = charged (anionFactor i) (anion .0) (row .anion) m (is .anion) a;
-            conductivity = e ∙ conducting;
+            conductivity = e ∙ times (is .conductance);
+            strength = f ∙ times (is .number);
           }
 
 -- ---- the sums so far with those of the next ion, as the loop adds them
@@ -118,3 +128,6 @@ module _ (greatest : Bool) (analytes : List Analyte) (small : Small analytes) (i
 
     pub conductivity-next : {x : ℕ} → x ≡ sum (λ k. conducted k * amountAt greatest analytes k) i → x + ion .conductivity .0 < 2 ^ 64
     conductivity-next q = omega (arith, most-fits, next conducted (is .conductivity) q)
+
+    pub strength-next : {x : ℕ} → x ≡ sum (λ k. strengthAdded k * amountAt greatest analytes k) i → x + ion .strength .0 < 2 ^ 64
+    strength-next q = omega (arith, most-fits, next strengthAdded (is .strength) q)

@@ -7,6 +7,7 @@ pub record Same (x y : Sums) : Type 0 where
   pub anions : x .anions ≡ y .anions
   pub calculated : x .calculated ≡ y .calculated
   pub measured : x .measured ≡ y .measured
+  pub strength : x .strength ≡ y .strength
   pub sodium : x .sodium ≡ y .sodium
   pub chloride : x .chloride ≡ y .chloride
   pub mineral : x .mineral ≡ y .mineral
@@ -20,6 +21,7 @@ same-sums s =
       anions = s .anions i;
       calculated = s .calculated i;
       measured = s .measured i;
+      strength = s .strength i;
       sodium = s .sodium i;
       chloride = s .chloride i;
       mineral = s .mineral i;

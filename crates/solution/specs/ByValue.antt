@@ -34,7 +34,7 @@ sumRangesHeld f floor =
 
 -- no sums, where no ion is known
 abbrev pub noSums : Sums
-noSums = record { cations = 0; anions = 0; calculated = 0; measured = 0; sodium = 0; chloride = 0; mineral = 0; total = 0 }
+noSums = record { cations = 0; anions = 0; calculated = 0; measured = 0; strength = 0; sodium = 0; chloride = 0; mineral = 0; total = 0 }
 
 abbrev pub noSumRanges : SumRanges
 noSumRanges = record { known = false; whole = true; least = noSums; most = noSums }

@@ -1,4 +1,5 @@
--- Document 01, 'Charge and conductance' and 'The four checks': what a record holds in solution, as the sums that the checks compare.
+-- Document 01, 'Charge and conductance' and 'The four checks', and document 02 (v): what a record holds in solution, as the sums that the
+-- checks compare and the ionic strength.
 use mathlib.Core.Bool.{Bool, cond}
 use mathlib.Core.List.{List}
 use Prim.Native.Nat.{ℕ, _+_, _*_, _^_}
@@ -7,7 +8,7 @@ use Rattle.reading.specs.Analytes.{present, analyteOf, AmountRange, rangeOf}
 use Rattle.record.specs.Record.{ions, readings, ammonium, sodium, nitrate, chloride, totalNitrogen, phOf, conductivityOf, alkalinityOf, readingAt, allBelow}
 use Rattle.solution.specs.declared.Sums.{Sums as SumsHeld}
 use Rattle.solution.specs.declared.Solution.{Solution}
-use Rattle.solution.specs.Ions.{cationCharge, anionCharge, conducted, hydrogenConductance, alkalinityCharge, alkalinityConductance, sum}
+use Rattle.solution.specs.Ions.{cationCharge, anionCharge, conducted, strengthAdded, hydrogenConductance, hydrogenChargeNumber, alkalinityCharge, alkalinityConductance, alkalinityChargeNumber, sum}
 
 -- ---- what a record leaves open: each amount from its least to its greatest, and hydrogen
 abbrev pub rangeAt : List ℕ → ℕ → AmountRange
@@ -24,7 +25,7 @@ abbrev pub gap : Bool → ℕ
 gap whole = cond whole 0 1
 
 -- ---- the sums
--- 'CE is the sum over all ten rows': what alkalinity t conducts
+-- 'the sum over all ten rows', document 01's CE and the plain sum of document 02 (v): what alkalinity t conducts
 abbrev pub alkalinityConducts : ℕ → ℕ
 alkalinityConducts t = alkalinityConductance * alkalinityCharge t
 
@@ -35,12 +36,15 @@ measuredUnit = 10 ^ 12
 abbrev pub measuredOf : ℕ → ℕ
 measuredOf measured = measured * measuredUnit
 
--- every sum that a check compares with another
+-- every sum that a check compares with another, and the ionic strength
 pub record Sums : Type 0 where
   pub cations : ℕ
   pub anions : ℕ
+  -- the plain sum: document 01's CE, which document 02 (v) multiplies by y² before it is compared
   pub calculated : ℕ
   pub measured : ℕ
+  -- in halves of 10^−15 mol/L
+  pub strength : ℕ
   pub sodium : ℕ
   pub chloride : ℕ
   pub mineral : ℕ
@@ -48,7 +52,8 @@ pub record Sums : Type 0 where
 
 -- by the amounts, hydrogen in u, and alkalinity and measured conductivity in tenths.
 -- 'Cat is H plus the next five rows, An the last four', 'CE is the sum over all ten rows, CM the measured value', 'the ratio of charges'
--- of Na and Cl, 'TN is at least NO3-N plus NH4-N, in amounts'
+-- of Na and Cl, 'TN is at least NO3-N plus NH4-N, in amounts'. Document 02 (v): the ionic strength is 'half the sum, over all ten rows, of
+-- equivalents per litre times the ion's charge'; a u is 10^−15 equivalents per litre, so the sum itself is the strength in halves
 abbrev pub sumsWith : (ℕ → ℕ) → ℕ → ℕ → ℕ → Sums
 sumsWith amount hydrogen t m =
     record {
@@ -56,6 +61,7 @@ sumsWith amount hydrogen t m =
       anions = alkalinityCharge t + sum (λ i. anionCharge i * amount i) readings;
       calculated = hydrogenConductance * hydrogen + (alkalinityConducts t + sum (λ i. conducted i * amount i) readings);
       measured = measuredOf m;
+      strength = hydrogenChargeNumber * hydrogen + (alkalinityChargeNumber * alkalinityCharge t + sum (λ i. strengthAdded i * amount i) readings);
       sodium = cationCharge sodium * amount sodium;
       chloride = anionCharge chloride * amount chloride;
       mineral = amount nitrate + amount ammonium;
@@ -81,10 +87,13 @@ sumRangesWith there least greatest floor whole t m =
       most = sumsWith greatest (floor + gap whole) t m;
     }
 
--- of a record
+-- of a record with a floor of hydrogen, and with its own
+abbrev pub sumRangesAt : List ℕ → ℕ → SumRanges
+sumRangesAt s floor =
+    sumRangesWith (λ i. present (readingAt s i)) (leastAt s) (greatestAt s) floor (isWhole (phOf s)) (alkalinityOf s) (conductivityOf s)
+
 abbrev pub sumRangesOf : List ℕ → SumRanges
-sumRangesOf s =
-    sumRangesWith (λ i. present (readingAt s i)) (leastAt s) (greatestAt s) (floorAt (phOf s)) (isWhole (phOf s)) (alkalinityOf s) (conductivityOf s)
+sumRangesOf s = sumRangesAt s (floorAt (phOf s))
 
 -- none of 'the eight ions' is missing
 abbrev pub ionsKnown : List ℕ → Bool
@@ -98,6 +107,7 @@ sumsIn x =
       anions = x .anions .0;
       calculated = x .calculated .0;
       measured = x .measured .0;
+      strength = x .strength .0;
       sodium = x .ratio .sodium .0;
       chloride = x .ratio .chloride .0;
       mineral = x .nitrogen .mineral .0;

@@ -3,7 +3,7 @@
 use mathlib.Core.Path.{_≡_}
 use mathlib.Core.Bool.{Bool}
 use mathlib.Core.List.{List}
-use Prim.Native.Nat.{ℕ, _+_, _*_, _^_, _≤_, _<_}
+use Prim.Native.Nat.{ℕ, _+_, _*_, _%_, _^_, _≤_, _<_}
 use Rattle.hydrogen.specs.Floors.{mostFloor}
 use Rattle.reading.specs.declared.Analyte.{Analyte}
 use Rattle.reading.specs.Amounts.{mostMass}
@@ -14,8 +14,8 @@ use Rattle.solution.specs.declared.SodiumChloride.{SodiumChloride}
 use Rattle.solution.specs.declared.ions.Row.{Row}
 use Rattle.solution.specs.declared.ions.Ion.{Ion}
 use Rattle.solution.specs.declared.ions.Eight.{Eight}
-use Rattle.solution.specs.Ions.{cationFactor, anionFactor, conductance, cationCharge, anionCharge, conducted, sum}
-use Rattle.solution.specs.Solutions.{Sums, sumsWith, SumRanges}
+use Rattle.solution.specs.Ions.{cationFactor, anionFactor, conductance, chargeNumber, cationCharge, anionCharge, conducted, strengthAdded, sum}
+use Rattle.solution.specs.Solutions.{measuredUnit, Sums, sumsWith, SumRanges}
 use Rattle.solution.specs.ByValue.{amountAt}
 
 -- ---- the ranges as facts. Hydrogen is at most the whole number after the greatest floor
@@ -36,11 +36,13 @@ pub record RowOf (i : ℕ) (x : Row) : Type 0 where
   pub cation : x .cation ≡ cationFactor i
   pub anion : x .anion ≡ anionFactor i
   pub conductance : x .conductance ≡ conductance i
+  pub number : x .number ≡ chargeNumber i
 
 pub record Adds (i m : ℕ) (x : Ion) : Type 0 where
   pub cation : x .cation .0 ≡ cationCharge i * m
   pub anion : x .anion .0 ≡ anionCharge i * m
   pub conductivity : x .conductivity .0 ≡ conducted i * m
+  pub strength : x .strength .0 ≡ strengthAdded i * m
 
 pub record IonSums (greatest : Bool) (analytes : List Analyte) (x : Eight) : Type 0 where
   pub cations : x .cations .0 ≡ sum (λ i. cationCharge i * amountAt greatest analytes i) readings
@@ -62,6 +64,7 @@ pub record AtMost (x y : Sums) : Type 0 where
   pub anions : x .anions ≤ y .anions
   pub calculated : x .calculated ≤ y .calculated
   pub measured : x .measured ≤ y .measured
+  pub strength : x .strength ≤ y .strength
   pub sodium : x .sodium ≤ y .sodium
   pub chloride : x .chloride ≤ y .chloride
   pub mineral : x .mineral ≤ y .mineral
@@ -73,8 +76,12 @@ mostSums = sumsWith (λ i. mostMass) mostHydrogen mostAlkalinity mostConductivit
 pub record Bounded (x : SumRanges) : Type 0 where
   pub ordered : AtMost (x .least) (x .most)
   pub most : AtMost (x .most) mostSums
+  -- a measured conductivity is a whole number of tenths of a µS/cm
+  pub leastTenths : x .least .measured % measuredUnit ≡ 0
+  pub mostTenths : x .most .measured % measuredUnit ≡ 0
 
 -- the sums fit 64 bits
 pub record Fits (x : Sums) : Type 0 where
   pub charges : x .cations + x .anions < 2 ^ 64
   pub calculated : x .calculated < 2 ^ 64
+  pub strength : x .strength < 2 ^ 64

@@ -1,18 +1,20 @@
 // The table of the ions, and the sums of a record's eight. Only the table's columns turn a mass into a charge and a charge into
-// a conductivity, and only like is added to like.
+// a conductivity or a strength, and only like is added to like.
 use crate::Charge;
 use crate::Conductivity;
 use crate::SodiumChloride;
 use crate::amounts;
+use crate::strength;
+use activity::IonicStrength;
 use reading::Analyte;
 use reading::Mass;
 use record::IONS;
 ghost use mathlib.Core.Path.{_≡_};
 ghost use Prim.Native.Nat.{_+_, _*_, _^_, _≤_, _<_};
 ghost use Rattle.reading.specs.Amounts.{mostMass};
-ghost use Rattle.record.specs.Record.{ions, allBelow};
-ghost use Rattle.solution.specs.Ions.{chargeUnit};
-ghost use Rattle.solution.specs.ByValue.{thereAt};
+ghost use Rattle.record.specs.Record.{ions, readings, allBelow};
+ghost use Rattle.solution.specs.Ions.{chargeUnit, strengthAdded, sum};
+ghost use Rattle.solution.specs.ByValue.{thereAt, amountAt};
 ghost use Rattle.solution.specs.Steps.{Small, RowOf, Adds, IonSums, RatioOf};
 
 // Charge in 10^3 u for each tenth of a µg/L: a column for the cations, one for the anions.
@@ -25,6 +27,12 @@ const CONDUCTANCE: [u64; IONS] = [735, 595, 531, 501, 735, 800, 714, 764];
 pub const HYDROGEN_CONDUCTANCE: u64 = 3500;
 
 pub const ALKALINITY_CONDUCTANCE: u64 = 445;
+// The ions' charge numbers.
+const CHARGE_NUMBER: [u64; IONS] = [1, 2, 2, 1, 1, 2, 1, 1];
+
+pub const HYDROGEN_CHARGE_NUMBER: u64 = 1;
+
+pub const ALKALINITY_CHARGE_NUMBER: u64 = 1;
 // u in the unit of the charge columns.
 const CHARGE_UNIT: u64 = 1000;
 
@@ -33,13 +41,16 @@ struct Row {
     cation: u64,
     anion: u64,
     conductance: u64,
+    // The charge number.
+    number: u64,
 }
 
-// What an amount of an ion adds to the sums: to one side of the balance, 0 to the other, and to the conductivity.
+// What an amount of an ion adds to the sums: to one side of the balance, 0 to the other, to the conductivity and to the strength.
 pub struct Ion {
     pub cation: Charge,
     pub anion: Charge,
     pub conductivity: Conductivity,
+    pub strength: IonicStrength,
 }
 
 // The sums of the eight ions.
@@ -83,7 +94,7 @@ fn charge(factor: u64, m: Mass) -> Charge
     Charge(CHARGE_UNIT * (factor * m.0))
 }
 
-// The entries of the three columns for an ion.
+// The entries of the four columns for an ion.
 fn row_at(ion: usize) -> Row
     requires { ⌜ ion < ions ⌝ }
     ensures { λ r. ⌜ RowOf ion r ⌝ }
@@ -92,6 +103,7 @@ fn row_at(ion: usize) -> Row
         cation: CATION[ion],
         anion: ANION[ion],
         conductance: CONDUCTANCE[ion],
+        number: CHARGE_NUMBER[ion],
     }
 }
 
@@ -103,11 +115,14 @@ fn of_ion(ion: usize, m: Mass) -> Ion
     let row = row_at(ion);
     let cation = charge(row.cation, m);
     let anion = charge(row.anion, m);
-    let conductivity = cation.plus(anion).conducting(row.conductance);
+    let charge = cation.plus(anion);
+    let conductivity = charge.conducting(row.conductance);
+    let strength = strength::of_charge(charge, row.number);
     Ion {
         cation,
         anion,
         conductivity,
+        strength,
     }
 }
 
@@ -132,6 +147,21 @@ pub fn sums_of(analytes: [Analyte; record::READINGS], greatest: bool) -> Eight
         anions,
         conductivity,
     }
+}
+
+// The strength of the eight at one end. A loop of its own: with a fourth sum the compiler no longer unrolls the one above.
+pub fn strength_of(analytes: [Analyte; record::READINGS], greatest: bool) -> IonicStrength
+    requires { ⌜ Small analytes ⌝ }
+    ensures { λ r. ⌜ r .0 ≡ sum (λ i. strengthAdded i * amountAt greatest analytes i) readings ⌝ }
+{
+    let mut strength = IonicStrength(0);
+    let mut i: usize = 0;
+    while i < IONS {
+        let ion = of_ion(i, amounts::at_end(analytes, i, greatest));
+        strength = strength::plus(strength, ion.strength);
+        i += 1;
+    }
+    strength
 }
 
 // Whether none of the eight is missing.

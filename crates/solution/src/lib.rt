@@ -1,11 +1,13 @@
-// What a water holds in solution by its analysis (document 01, 'Charge and conductance', and 02 (i)): the charges and the
-// conductivities of the table's ten rows, added up to the sums that the checks compare.
+// What a water holds in solution by its analysis (document 01, 'Charge and conductance', and 02 (i) and (v)): the charges, the
+// conductivities and the ionic strength of the table's ten rows, added up to the sums that the checks compare.
 mod amounts;
 mod both_ends;
 mod ions;
 mod one_end;
 mod ranges;
+mod strength;
 
+use activity::IonicStrength;
 use reading::Mass;
 use record::TestedRecord;
 ghost use mathlib.Core.Path.{_≡_};
@@ -31,13 +33,14 @@ pub struct Nitrogen {
     pub total: Mass,
 }
 
-// Every sum that a check compares with another.
+// Every sum that a check compares with another, and the ionic strength.
 pub struct Sums {
-    // Cat, An, CE and CM of document 01.
+    // Cat, An, the plain sum of conductivities and CM.
     pub cations: Charge,
     pub anions: Charge,
     pub calculated: Conductivity,
     pub measured: Conductivity,
+    pub strength: IonicStrength,
     pub ratio: SodiumChloride,
     pub nitrogen: Nitrogen,
 }

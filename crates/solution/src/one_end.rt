@@ -6,6 +6,8 @@ use crate::SodiumChloride;
 use crate::Sums;
 use crate::amounts;
 use crate::ions;
+use crate::strength;
+use activity::IonicStrength;
 use reading::Analyte;
 use reading::Mass;
 use record::TestedRecord;
@@ -13,7 +15,7 @@ ghost use mathlib.Core.Path.{_≡_};
 ghost use Prim.Native.Nat.{_+_, _*_, _^_, _≤_, _<_};
 ghost use Rattle.record.specs.Record.{mostConductivity};
 ghost use Rattle.record.specs.Tested.{fieldsIn};
-ghost use Rattle.solution.specs.Ions.{hydrogenConductance, alkalinityConductance, alkalinityCharge};
+ghost use Rattle.solution.specs.Ions.{hydrogenConductance, hydrogenChargeNumber, alkalinityConductance, alkalinityChargeNumber, alkalinityCharge};
 ghost use Rattle.solution.specs.Solutions.{measuredOf, sumsIn};
 ghost use Rattle.solution.specs.ByValue.{sumsHeld, noSums};
 ghost use Rattle.solution.specs.Steps.{Small, Ranged, NitrogenOf};
@@ -37,11 +39,14 @@ pub fn sums(own: TestedRecord, greatest: bool, hydrogen: Charge) -> Sums
     let cations = hydrogen.plus(eight.cations);
     let anions = alkalinity.plus(eight.anions);
     let calculated = calculated(hydrogen, alkalinity, eight.conductivity);
+    let of_ions = ions::strength_of(analytes, greatest);
+    let strength = strength_of(hydrogen, alkalinity, of_ions);
     Sums {
         cations,
         anions,
         calculated,
         measured,
+        strength,
         ratio,
         nitrogen,
     }
@@ -56,6 +61,7 @@ pub fn no_sums() -> Sums
         anions: Charge(0),
         calculated: Conductivity(0),
         measured: Conductivity(0),
+        strength: IonicStrength(0),
         ratio: SodiumChloride {
             sodium: Charge(0),
             chloride: Charge(0),
@@ -89,6 +95,21 @@ fn calculated(hydrogen: Charge, alkalinity: Charge, eight: Conductivity) -> Cond
         .conducting(ions::ALKALINITY_CONDUCTANCE)
         .plus(eight);
     hydrogen.conducting(ions::HYDROGEN_CONDUCTANCE).plus(others)
+}
+
+// The strength of hydrogen, alkalinity and the eight ions.
+fn strength_of(hydrogen: Charge, alkalinity: Charge, eight: IonicStrength) -> IonicStrength
+    requires { ⌜ hydrogenChargeNumber * hydrogen .0 + (alkalinityChargeNumber * alkalinity .0 + eight .0) < 2 ^ 64 ⌝ }
+    ensures { λ r. ⌜ r .0 ≡ hydrogenChargeNumber * hydrogen .0 + (alkalinityChargeNumber * alkalinity .0 + eight .0) ⌝ }
+{
+    let others = strength::plus(
+        strength::of_charge(alkalinity, ions::ALKALINITY_CHARGE_NUMBER),
+        eight,
+    );
+    strength::plus(
+        strength::of_charge(hydrogen, ions::HYDROGEN_CHARGE_NUMBER),
+        others,
+    )
 }
 
 // The two masses of the nitrogen check.

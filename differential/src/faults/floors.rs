@@ -1,12 +1,11 @@
 //! Faults in the floor of hydrogen, made from those for p from 200 to 299 by
 //! divisions by ten (document 02 (iv)).
 
-use super::inequalities;
+use super::verdicts_at;
 use super::Fault::{
     self, DividedToTheNearest, NextNumberDivided, OneDivisionTooFew, WrongFloorAt253,
 };
 use crate::numbers::LEAST_PH;
-use reference::checks::decide_by;
 use reference::hydrogen::Ph;
 use reference::record::Record;
 
@@ -19,9 +18,9 @@ pub fn judge_by_another_floor(fault: Fault, record: &Record, verdicts: &mut [u32
         return;
     };
     let is_whole = record.ph.has_whole_hydrogen();
-    for (place, inequality) in inequalities(record).into_iter().flatten() {
+    for (place, verdict) in verdicts_at(record, h, is_whole).into_iter().flatten() {
         if matches!(verdicts[place], 1..=3) {
-            verdicts[place] = decide_by(h, is_whole, &*inequality).number();
+            verdicts[place] = verdict;
         }
     }
 }

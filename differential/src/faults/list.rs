@@ -13,6 +13,23 @@ pub enum Fault {
     DividedToTheNearest,
     NextNumberDivided,
     WrongFloorAt253,
+    RootOfTheSquare,
+    MinusSignLost,
+    ExponentUnsquared,
+    LowerExponentUp,
+    UpperExponentDown,
+    LowerRootForBoth,
+    UpperRootForBoth,
+    RootBelowItsSquare,
+    RootAboveItsSquare,
+    CalciumOfChargeOne,
+    SulphateOfChargeOne,
+    HydrogenLeftOut,
+    AlkalinityLeftOut,
+    FloorAtBothEnds,
+    PlainAtWholePh,
+    NoneAdded,
+    MeasuredCorrected,
     CarbonLineIncluded,
     TwentyInTheUpperClass,
     SwappedInTheRecord,
@@ -79,6 +96,23 @@ pub const FAULTS: &[(Fault, &str)] = &[
     (DividedToTheNearest, "records"),
     (NextNumberDivided, "records"),
     (WrongFloorAt253, "records"),
+    (RootOfTheSquare, "records"),
+    (MinusSignLost, "records"),
+    (ExponentUnsquared, "records"),
+    (LowerExponentUp, "records"),
+    (UpperExponentDown, "records"),
+    (LowerRootForBoth, "records"),
+    (UpperRootForBoth, "records"),
+    (RootBelowItsSquare, "records"),
+    (RootAboveItsSquare, "records"),
+    (CalciumOfChargeOne, "records"),
+    (SulphateOfChargeOne, "records"),
+    (HydrogenLeftOut, "records"),
+    (AlkalinityLeftOut, "records"),
+    (FloorAtBothEnds, "records"),
+    (PlainAtWholePh, "records"),
+    (NoneAdded, "records"),
+    (MeasuredCorrected, "records"),
     (CarbonLineIncluded, "records"),
     (TwentyInTheUpperClass, "records"),
     (SwappedInTheRecord, "records"),
@@ -130,6 +164,27 @@ pub const FAULTS: &[(Fault, &str)] = &[
     (JoinedLengthToldWhenRefused, "joins"),
 ];
 
+/// The faults in the correction of conductivity for ionic strength.
+pub const CORRECTION: [Fault; 17] = [
+    RootOfTheSquare,
+    MinusSignLost,
+    ExponentUnsquared,
+    LowerExponentUp,
+    UpperExponentDown,
+    LowerRootForBoth,
+    UpperRootForBoth,
+    RootBelowItsSquare,
+    RootAboveItsSquare,
+    CalciumOfChargeOne,
+    SulphateOfChargeOne,
+    HydrogenLeftOut,
+    AlkalinityLeftOut,
+    FloorAtBothEnds,
+    PlainAtWholePh,
+    NoneAdded,
+    MeasuredCorrected,
+];
+
 #[cfg(test)]
 mod tests {
     use super::*;
@@ -141,6 +196,8 @@ mod tests {
         for (place, (fault, _)) in FAULTS.iter().enumerate() {
             assert!(FAULTS[..place].iter().all(|(other, _)| other != fault));
         }
+        let in_the_list = |fault: &Fault| FAULTS.contains(&(*fault, "records"));
+        assert!(CORRECTION.iter().all(in_the_list));
         let count = format!(" {} faults ", FAULTS.len());
         assert!(README.contains(&count), "{count}");
     }

@@ -12,6 +12,7 @@ use crate::numbers::{
     CALCIUM, CHLORIDE, DOCKET_WORDS, KIND, MAGNESIUM, MOST_DOCKET_ROOM, POTASSIUM, RANGES,
     RECORD_WORDS, SODIUM, SOIL_WATER, SULPHATE,
 };
+use crate::on_an_edge::bottle_on_an_edge;
 use crate::on_the_limit::bottle_on_a_limit;
 use crate::random::Draw;
 use crate::records::damaged;
@@ -53,7 +54,8 @@ fn first_bottle(generator: &mut Generator) -> Bottle {
     let bottle = match generator.below(100) {
         0..=24 => Bottle::doubtful(),
         25..=39 => doubtful_traces(generator),
-        40..=42 => bottle_on_a_limit(generator).unwrap_or_else(Bottle::doubtful),
+        40 | 41 => bottle_on_a_limit(generator).unwrap_or_else(Bottle::doubtful),
+        42 | 43 => bottle_on_an_edge(generator).unwrap_or_else(Bottle::doubtful),
         _ => any_bottle(generator),
     };
     bottle.number(any_number(generator))
@@ -210,7 +212,7 @@ mod tests {
     fn traces_about_a_tenth_apart_are_common() {
         let mut generator = Generator::new(14);
         let (mut exact, mut one_more) = (0, 0);
-        for _ in 0..10_000 {
+        for _ in 0..15_000 {
             let offers = list(&mut generator);
             let records: Vec<Record> = offers.iter().flat_map(|o| Record::read(o)).collect();
             for pair in records.windows(2) {

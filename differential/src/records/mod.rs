@@ -1,5 +1,5 @@
-//! Part 1: records. Drawn ones, ones on a limit or a step beside it, and
-//! damaged ones.
+//! Part 1: records. Drawn ones, ones on a limit or a step beside it, ones whose
+//! strength is on a square or beside it, and damaged ones.
 
 mod case;
 mod damage;
@@ -16,29 +16,46 @@ use crate::numbers::{
     ALKALINITY, BULK, CARBON_LINE, CHECKS, CONDUCTIVITY, LEAST_PH, MOST_ALKALINITY, MOST_AMOUNT,
     MOST_CONDUCTIVITY, MOST_PH, ORGANIC_CARBON, PH, READINGS, RUNOFF, SOIL_WATER, WET_ONLY,
 };
+use crate::on_an_edge::bottle_on_an_edge;
 use crate::on_the_limit::bottle_on_a_limit;
 use crate::random::Draw;
+use crate::strength::bottle_of_strength;
 use case::RecordCase;
 use reference::cases::bottle::Bottle;
+use reference::cases::conducting::tenths_at_edges;
 use reference::cases::generator::Generator;
 use reference::readings::Reading;
 
-const DRAWN: u32 = 1_000_000;
-const FLIPS: u32 = 300_000;
-const SOLVED: u32 = 30_000;
+/// All draws take turns, so that none has to wait for all of another.
+const ROUNDS: u32 = 50;
+/// In each round.
+const DRAWN: u32 = 20_000;
+const FLIPS: u32 = 6_000;
+const SOLVED: u32 = 300;
 const NEIGHBOURS: u32 = 25;
-const DAMAGED: u32 = 1_000_000;
+const STRENGTHS: u32 = 1_000;
+const DAMAGED: u32 = 20_000;
 
 pub fn run(run: &mut Run) -> Result<(), Mismatch> {
     for words in written::all() {
         check(run, &words)?;
     }
+    for _ in 0..ROUNDS {
+        round(run)?;
+    }
+    Ok(())
+}
+
+fn round(run: &mut Run) -> Result<(), Mismatch> {
     for _ in 0..DRAWN {
         let bottle = any_bottle(&mut run.generator);
         check(run, bottle.words())?;
     }
     flips(run)?;
-    on_the_limit(run)?;
+    for solved in [bottle_on_a_limit, bottle_on_an_edge] {
+        and_neighbours(run, solved)?;
+    }
+    strengths(run)?;
     for _ in 0..DAMAGED {
         let words = damaged(&mut run.generator);
         check(run, &words)?;
@@ -67,9 +84,13 @@ fn flips(run: &mut Run) -> Result<(), Mismatch> {
     Ok(())
 }
 
-fn on_the_limit(run: &mut Run) -> Result<(), Mismatch> {
+/// What a bottle is solved for, where that is found.
+type Solved = fn(&mut Generator) -> Option<Bottle>;
+
+/// Solved bottles and others a step off.
+fn and_neighbours(run: &mut Run, solved: Solved) -> Result<(), Mismatch> {
     for _ in 0..SOLVED {
-        let Some(bottle) = bottle_on_a_limit(&mut run.generator) else {
+        let Some(bottle) = solved(&mut run.generator) else {
             continue;
         };
         let kinds = [WET_ONLY, BULK, BULK, SOIL_WATER];
@@ -78,6 +99,23 @@ fn on_the_limit(run: &mut Run) -> Result<(), Mismatch> {
         for _ in 0..NEIGHBOURS {
             let neighbour = neighbour(&mut run.generator, &bottle);
             check(run, neighbour.words())?;
+        }
+    }
+    Ok(())
+}
+
+/// A bottle of some strength at each measured conductivity that lies next to an
+/// end of its bracket, and at one a step further.
+fn strengths(run: &mut Run) -> Result<(), Mismatch> {
+    for _ in 0..STRENGTHS {
+        let Some(bottle) = bottle_of_strength(&mut run.generator) else {
+            continue;
+        };
+        for tenths in tenths_at_edges(&bottle) {
+            check(run, bottle.conductivity(tenths).words())?;
+            let beside = tenths + run.generator.pick(&[0, 2]) - 1;
+            let beside = beside.clamp(1, MOST_CONDUCTIVITY);
+            check(run, bottle.conductivity(beside).words())?;
         }
     }
     Ok(())

@@ -38,8 +38,13 @@ pub fn charts_and_samples() -> (Vec<Chart>, Vec<Bottle>) {
     let mut samples: Vec<Bottle> = (0..MOST_SAMPLES)
         .map(|index| sample(&mut generator, index))
         .collect();
-    // Verdict 3 is so rare that it has to be put in.
-    for (place, undecided) in [(123, undecided_balance()), (321, undecided_conductivity())] {
+    // Verdict 3 on the ion balance is so rare that it has to be put in; on
+    // conductivity it is put in as well, once at whole pH.
+    for (place, undecided) in [
+        (123, undecided_balance()),
+        (222, undecided_conductivity(600)),
+        (321, undecided_conductivity(501)),
+    ] {
         if let Some(bottle) = undecided {
             samples[place] = bottle.number(number_of(place as u32));
         }

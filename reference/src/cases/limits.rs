@@ -1,6 +1,7 @@
 //! Call 7: each inequality on its limit and one step beside it.
 
 use super::bottle::Bottle;
+use super::conducting::{edges, tenths_at_edges};
 use super::floats::{float_of, least_float_of, limit_of, DOUBLE};
 use super::generator::Generator;
 use super::solver::{Bound, ENDS};
@@ -14,6 +15,7 @@ use crate::numbers::{
 pub fn all(cases: &mut Cases) {
     balance(cases);
     conductivity(cases);
+    printed(cases);
     classes(cases);
     sodium_chloride(cases);
     nitrogen(cases);
@@ -37,25 +39,33 @@ fn balance(cases: &mut Cases) {
     for ph in (LEAST_PH..=MOST_PH).step_by(100) {
         for end in ENDS {
             for tenths in [1, 100, 200, 201, 1_000] {
-                on_and_beside(cases, &mut generator, Bound::Balance(tenths, end), ph);
+                on_and_beside(cases, &mut generator, Bound { tenths, end }, ph);
             }
         }
     }
 }
 
+/// Each end of the bracket of y² next to each limit, where hydrogen is whole:
+/// the last two plain sums before it and the first two after. Between the two
+/// ends of a bracket conductivity is undecided.
 fn conductivity(cases: &mut Cases) {
     let mut generator = Generator::new(302);
-    for ph in [500, 600, 900] {
-        for end in ENDS {
-            for tenths in [100, 101, 200, 201] {
-                on_and_beside(cases, &mut generator, Bound::Conductivity(tenths, end), ph);
-            }
+    let classes = [90, 100, 101, 200, 201];
+    let whole = [500, 600, 900].map(|ph| classes.map(|tenths| (ph, tenths)));
+    let strong = [(300, 5_000), (400, 1_000), (700, 2_000), (800, 30_000)];
+    for (ph, tenths) in whole.into_iter().flatten().chain(strong) {
+        let Ok(ph) = Ph::new(ph) else { continue };
+        for edge in edges(tenths) {
+            let bottles = (-1..=2).filter_map(|steps| edge.bottle(&mut generator, ph, steps));
+            bottles.for_each(|bottle| cases.judge(&bottle));
         }
     }
-    for (ph, tenths) in [(300, 5_000), (400, 1_000), (700, 2_000)] {
-        for end in ENDS {
-            on_and_beside(cases, &mut generator, Bound::Conductivity(tenths, end), ph);
-        }
+}
+
+/// The printed sample at every measured conductivity next to an edge.
+fn printed(cases: &mut Cases) {
+    for tenths in tenths_at_edges(&Bottle::printed()) {
+        cases.judge(&Bottle::printed().conductivity(tenths));
     }
 }
 
@@ -177,5 +187,42 @@ fn organic_carbon(cases: &mut Cases) {
             cases.judge(&bottle.amount(ORGANIC_CARBON, amount).missing(CHLORIDE));
         }
         cases.judge(&bottle.missing(ORGANIC_CARBON).missing(CHLORIDE));
+    }
+}
+
+#[cfg(test)]
+mod tests {
+    use super::*;
+    use crate::checks::{conductivity_limit, Conductivity, Verdict};
+    use crate::record::Record;
+
+    /// Too low and too high in each of the three classes of measured
+    /// conductivity: undecided where hydrogen is whole, outside and within beside
+    /// that.
+    #[test]
+    fn whole_hydrogen_has_undecided_conductivity_in_every_class() {
+        let mut cases = Cases::default();
+        conductivity(&mut cases);
+        let mut found = Vec::new();
+        for words in cases.of_call(7) {
+            let record = Record::read(words).expect("a record");
+            assert!(record.ph.has_whole_hydrogen());
+            let check = Conductivity::of(&record).expect("all ions");
+            let h = i128::from(record.ph.floor());
+            let calculated = check.calculated(check.bracket(h, true), h, true);
+            let (from, to) = check.limits();
+            let is_high = 100 * calculated.least > (from + to) / 2;
+            let m = conductivity_limit(record.conductivity);
+            found.push((m, is_high, check.verdict(h, true)));
+        }
+        for m in [30, 20, 10] {
+            for is_high in [false, true] {
+                for verdict in [Verdict::Within, Verdict::Outside, Verdict::Undecided] {
+                    let here = |&&case: &&(i128, bool, Verdict)| case == (m, is_high, verdict);
+                    let times = found.iter().filter(here).count();
+                    assert!(times >= 6, "{m} {is_high} {verdict:?} {times} times");
+                }
+            }
+        }
     }
 }

@@ -4,6 +4,7 @@ pub mod agreement;
 pub mod batches;
 pub mod bottle;
 pub mod charts;
+pub mod conducting;
 pub mod floats;
 pub mod generator;
 pub mod greatest_batch;
@@ -19,6 +20,7 @@ pub mod readings;
 pub mod records;
 pub mod sample_numbers;
 pub mod solver;
+pub mod strength;
 pub mod undecided;
 
 use crate::numbers::{ALKALINITY, RECORD_WORDS};
@@ -66,13 +68,14 @@ impl Cases {
 /// the middle of it.
 pub fn replay_input() -> Vec<u8> {
     let mut cases = Cases::default();
-    let subjects: [fn(&mut Cases); 13] = [
+    let subjects: [fn(&mut Cases); 14] = [
         hydrogen::all,
         readings::all,
         questions::all,
         records::all,
         limits::all,
         undecided::all,
+        strength::all,
         agreement::all,
         offers::all,
         charts::all,

@@ -93,7 +93,7 @@ fn bottle_of(letter: char) -> Bottle {
 }
 
 fn undecided() -> Bottle {
-    undecided_conductivity().unwrap_or_else(Bottle::doubtful)
+    undecided_conductivity(501).unwrap_or_else(Bottle::doubtful)
 }
 
 /// Offers of a bottle, of others by the high word, by the low word and by the

@@ -26,7 +26,8 @@ pub fn all(cases: &mut Cases) {
     scattered(cases);
 }
 
-/// The sixteen proved cases and the printed sample.
+/// The bottles of the sixteen proved cases and the printed sample. Cases 13 to 16
+/// are of the plain sum; here all are judged as 02 (v) has it.
 fn proved(cases: &mut Cases) {
     for p in [600, 530, 999] {
         cases.add(1, &[p]);

@@ -1,20 +1,20 @@
-//! Bottles found by search whose ion balance or conductivity changes from
-//! within to outside at a chosen place of hydrogen.
+//! Bottles found by search whose ion balance changes from within to outside at
+//! a chosen place of hydrogen.
 //!
-//! Each of the two inequalities holds from a least to a greatest hydrogen. An
-//! end of that span is always `unit × N / divisor` u with a whole number N, as
-//! all charges but hydrogen's are multiples of 10^3 u. The searches below look
-//! for amounts and an alkalinity that give a wanted N.
+//! The inequality holds from a least to a greatest hydrogen. An end of that span
+//! is always `unit × N / divisor` u with a whole number N, as all charges but
+//! hydrogen's are multiples of 10^3 u. The searches below look for amounts and
+//! an alkalinity that give a wanted N.
 
 use super::bottle::Bottle;
 use super::generator::Generator;
-use crate::ions::{ALKALINITY_CONDUCTANCE, ANIONS, CATIONS, HYDROGEN_CONDUCTANCE, TABLE};
+use crate::ions::{ANIONS, CATIONS, TABLE};
 use crate::numbers::{
-    ALKALINITY_CHARGE, AMOUNT_CHARGE, CHLORIDE, CONDUCTIVITY_TENTH, IONS, MOST_ALKALINITY,
-    MOST_AMOUNT, POTASSIUM,
+    ALKALINITY_CHARGE, AMOUNT_CHARGE, CHLORIDE, IONS, MOST_ALKALINITY, MOST_AMOUNT,
 };
 
-/// An end of the span of hydrogen for which an inequality holds.
+/// An end: of the span of hydrogen for which an inequality holds, of the
+/// calculated conductivity that is within, or of a bracket.
 #[derive(Clone, Copy, Debug, PartialEq, Eq)]
 pub enum End {
     Least,
@@ -23,22 +23,18 @@ pub enum End {
 
 pub const ENDS: [End; 2] = [End::Least, End::Greatest];
 
-/// An end of the span of one of the two inequalities, at a measured
-/// conductivity in tenths of µS/cm.
+/// An end of the span of the ion balance, at a measured conductivity in tenths
+/// of µS/cm.
 #[derive(Clone, Copy, Debug)]
-pub enum Bound {
-    Balance(u32, End),
-    Conductivity(u32, End),
+pub struct Bound {
+    pub tenths: u32,
+    pub end: End,
 }
 
 impl Bound {
     /// (unit, divisor): the end is unit × N / divisor u.
     pub fn unit_and_divisor(self) -> (i128, i128) {
-        match self {
-            Bound::Balance(tenths, end) => (AMOUNT_CHARGE, balance_weights(tenths, end).1),
-            // 10^5 × N / 350,000 without the common factor of 100: 2 × N / 7
-            Bound::Conductivity(..) => (AMOUNT_CHARGE, HYDROGEN_CONDUCTANCE),
-        }
+        (AMOUNT_CHARGE, balance_weights(self.tenths, self.end).1)
     }
 
     /// The greatest N whose end is at most this whole hydrogen.
@@ -61,24 +57,19 @@ impl Bound {
 
     /// A bottle with this end at N, or nothing where the search gives up.
     pub fn bottle(self, generator: &mut Generator, ph: u32, n: i128) -> Option<Bottle> {
-        let (tenths, ions) = match self {
-            Bound::Balance(tenths, end) => (tenths, balance_ions(generator, tenths, end, n)?),
-            Bound::Conductivity(tenths, end) => {
-                (tenths, conducting_ions(generator, tenths, end, n)?)
-            }
-        };
-        Some(ions.bottle().ph(ph).conductivity(tenths))
+        let ions = balance_ions(generator, self.tenths, self.end, n)?;
+        Some(ions.bottle().ph(ph).conductivity(self.tenths))
     }
 }
 
 /// The eight amounts and the alkalinity of a bottle.
-struct Ions {
-    amounts: [u32; IONS],
-    alkalinity: u32,
+pub struct Ions {
+    pub amounts: [u32; IONS],
+    pub alkalinity: u32,
 }
 
 impl Ions {
-    fn bottle(&self) -> Bottle {
+    pub fn bottle(&self) -> Bottle {
         let bottle = Bottle::without_ions().alkalinity(self.alkalinity);
         let amounts = self.amounts.iter().enumerate();
         amounts.fold(bottle, |bottle, (ion, &amount)| bottle.amount(ion, amount))
@@ -141,62 +132,12 @@ fn anions_of(generator: &mut Generator, mut amounts: [u32; IONS], anions: i128) 
     })
 }
 
-/// What one tenth of a µg/L of an ion adds, in units of 10^3 × 10^−13 µS/cm.
-pub const fn conducted(ion: usize) -> i128 {
-    TABLE[ion].factor * TABLE[ion].conductance
-}
-
-/// What one tenth of a µeq/L of alkalinity adds, in the same units.
-pub const CONDUCTED_BY_ALKALINITY: i128 = ALKALINITY_CONDUCTANCE * TENTH_CHARGES;
-
-/// N is (100 ± M) × CM − 100 × R in units of 10^5 × 10^−13 µS/cm, so the parts
-/// R of the ions and of alkalinity must sum up to (100 ± M) × CM − N with CM in
-/// those units, R in units of 10^3 × 10^−13 µS/cm.
-pub fn sum_conducted(tenths: u32, end: End, n: i128) -> i128 {
-    let m = match tenths {
-        0..=100 => 30,
-        101..=200 => 20,
-        _ => 10,
-    };
-    let percent = match end {
-        End::Least => 100 - m,
-        End::Greatest => 100 + m,
-    };
-    let measured = i128::from(tenths) * CONDUCTIVITY_TENTH / (100 * AMOUNT_CHARGE);
-    percent * measured - n
-}
-
-fn conducting_ions(generator: &mut Generator, tenths: u32, end: End, n: i128) -> Option<Ions> {
-    let sum = sum_conducted(tenths, end, n);
-    (0..20_000).find_map(|_| ions_conducting(generator, sum))
-}
-
-/// Draws all but potassium and chloride, then searches these two.
-fn ions_conducting(generator: &mut Generator, sum: i128) -> Option<Ions> {
-    let mut amounts = [0; IONS];
-    let mut share = |conducted: i128| generator.below((sum / 12 / conducted) as u32 + 1);
-    for (ion, amount) in amounts.iter_mut().enumerate() {
-        *amount = share(conducted(ion));
-    }
-    let alkalinity = share(CONDUCTED_BY_ALKALINITY);
-    amounts[POTASSIUM] = 0;
-    amounts[CHLORIDE] = 0;
-    let parts = (0..IONS).map(|ion| i128::from(amounts[ion]) * conducted(ion));
-    let rest = sum - i128::from(alkalinity) * CONDUCTED_BY_ALKALINITY - parts.sum::<i128>();
-    let (chloride, potassium) = split(rest, conducted(CHLORIDE), conducted(POTASSIUM))?;
-    amounts[CHLORIDE] = chloride;
-    amounts[POTASSIUM] = potassium;
-    Some(Ions {
-        amounts,
-        alkalinity,
-    })
-}
-
 /// The first two whole numbers up to the greatest amount with
-/// first × a + second × b = rest. The remainder of what is left by b is carried
-/// along, so that no step has to divide.
-fn split(rest: i128, a: i128, b: i128) -> Option<(u32, u32)> {
-    if rest < 0 {
+/// first × a + second × b = rest: none where a divisor of both a and b doesn't
+/// divide that. The remainder of what is left by b is carried along, so that no
+/// step has to divide.
+pub fn split(rest: i128, a: i128, b: i128) -> Option<(u32, u32)> {
+    if rest < 0 || rest % common_divisor(a, b) != 0 {
         return None;
     }
     let (step, mut remainder) = ((a % b) as i64, (rest % b) as i64);
@@ -214,25 +155,19 @@ fn split(rest: i128, a: i128, b: i128) -> Option<(u32, u32)> {
     None
 }
 
+/// The greatest number that divides both, by Euclid's steps.
+fn common_divisor(a: i128, b: i128) -> i128 {
+    match b {
+        0 => a,
+        _ => common_divisor(b, a % b),
+    }
+}
+
 #[cfg(test)]
 mod tests {
     use super::*;
-    use crate::checks::{Conductivity, Fraction, Inequality, IonBalance, Span};
+    use crate::checks::{Inequality, IonBalance};
     use crate::record::Record;
-
-    fn end_of(span: Span, end: End) -> Fraction {
-        match end {
-            End::Least => span.least,
-            End::Greatest => span.greatest,
-        }
-    }
-
-    fn searched_end(bound: Bound, record: &Record) -> Option<Fraction> {
-        Some(match bound {
-            Bound::Balance(_, end) => end_of(IonBalance::of(record)?.span(), end),
-            Bound::Conductivity(_, end) => end_of(Conductivity::of(record)?.span(), end),
-        })
-    }
 
     #[test]
     fn the_end_of_the_span_is_where_it_was_wanted() {
@@ -240,20 +175,28 @@ mod tests {
         let hydrogen = 10_000_000_000;
         for end in ENDS {
             for tenths in [100, 101, 200, 201] {
-                for bound in [
-                    Bound::Balance(tenths, end),
-                    Bound::Conductivity(tenths, end),
-                ] {
-                    let n = bound.last_up_to(hydrogen) + 1;
-                    let bottle = bound.bottle(&mut generator, 500, n);
-                    let record = bottle.and_then(|bottle| Record::read(bottle.words()).ok());
-                    let found = record.and_then(|record| searched_end(bound, &record));
-                    let (unit, divisor) = bound.unit_and_divisor();
-                    let right =
-                        |end: Fraction| end.numerator * divisor == unit * n * end.denominator;
-                    assert!(found.is_some_and(right), "{bound:?}");
-                }
+                let bound = Bound { tenths, end };
+                let n = bound.last_up_to(hydrogen) + 1;
+                let bottle = bound.bottle(&mut generator, 500, n).expect("a bottle");
+                let record = Record::read(bottle.words()).expect("a record");
+                let span = IonBalance::of(&record).expect("all ions").span();
+                let found = match end {
+                    End::Least => span.least,
+                    End::Greatest => span.greatest,
+                };
+                let (unit, divisor) = bound.unit_and_divisor();
+                let right = found.numerator * divisor == unit * n * found.denominator;
+                assert!(right, "{bound:?}");
             }
         }
+    }
+
+    #[test]
+    fn a_number_is_split_where_it_can_be() {
+        assert_eq!(split(31, 4, 9), Some((1, 3)));
+        assert_eq!(split(30, 4, 6), Some((0, 5)));
+        assert_eq!(split(31, 4, 6), None);
+        assert_eq!(split(5, 4, 9), None);
+        assert_eq!(split(-4, 4, 9), None);
     }
 }

@@ -1,7 +1,11 @@
 use super::*;
+use crate::activity::Bracket;
 use crate::cases::bottle::{plausible, Bottle};
+use crate::cases::conducting::tenths_at_edges;
 use crate::cases::generator::Generator;
-use crate::numbers::{BALANCE_CHECK, CONDUCTIVITY_CHECK, RATIO_CHECK};
+use crate::numbers::{
+    BALANCE_CHECK, CONDUCTIVITY_CHECK, CONDUCTIVITY_TENTH, RATIO_CHECK, SQUARE_UNIT,
+};
 
 fn record(bottle: &Bottle) -> Record {
     match Record::read(bottle.words()) {
@@ -36,11 +40,12 @@ fn proved_cases_9_to_12() {
     }
 }
 
+/// "01's cases 13 to 16 stay proved of the plain sum" (02 (v)).
 #[test]
 fn proved_cases_13_to_16() {
     for (tenths, verdict) in [(128, 2), (129, 1), (193, 1), (194, 2)] {
         let bottle = Bottle::printed().conductivity(tenths);
-        let found = numbers(&bottle)[CONDUCTIVITY_CHECK];
+        let found = plain_conductivity(&record(&bottle)).number();
         assert_eq!(found, verdict, "conductivity {tenths}");
     }
 }
@@ -151,11 +156,131 @@ fn verdicts_are_true_of_hydrogen_and_spans_of_inequalities() {
     let mut generator = Generator::new(11);
     for _ in 0..2_000 {
         let record = record(&plausible(&mut generator));
-        if let (Some(balance), Some(conductance)) =
-            (IonBalance::of(&record), Conductivity::of(&record))
+        if let (Some(balance), Some(plain)) =
+            (IonBalance::of(&record), PlainConductivity::of(&record))
         {
             assert_true_of_hydrogen(record.ph, decide(record.ph, &balance), &balance);
-            assert_true_of_hydrogen(record.ph, decide(record.ph, &conductance), &conductance);
+            assert_true_of_hydrogen(record.ph, decide(record.ph, &plain), &plain);
         }
     }
+}
+
+/// The printed sample's calculated conductivity is about 15.1 µS/cm: 12.6 lies
+/// within a fifth of some of its bracket, 18.9 too.
+#[test]
+fn the_printed_sample_s_conductivity_at_its_edges() {
+    for (tenths, verdict) in [(125, 2), (126, 3), (127, 1), (188, 1), (189, 3), (190, 2)] {
+        let found = numbers(&Bottle::printed().conductivity(tenths));
+        assert_eq!(found[CONDUCTIVITY_CHECK], verdict, "conductivity {tenths}");
+    }
+}
+
+/// "Both included", and hydrogen's ends are not reached where it isn't whole.
+#[test]
+fn calculated_conductivity_on_a_limit() {
+    let printed = record(&Bottle::printed());
+    let check = Conductivity::of(&printed).expect("all ions");
+    let (from, to) = check.limits();
+    let (from, to) = (from / 100, to / 100);
+    let judge = |least, greatest, ends_are_reached| {
+        let calculated = Calculated {
+            least,
+            greatest,
+            ends_are_reached,
+        };
+        check.judge(calculated).number()
+    };
+    for reached in [true, false] {
+        assert_eq!(judge(from, to, reached), 1);
+        assert_eq!(judge(from - 1, to, reached), 3);
+        assert_eq!(judge(from, to + 1, reached), 3);
+        assert_eq!(judge(from - 1, to + 1, reached), 3);
+        assert_eq!(judge(from - 9, from - 1, reached), 2);
+        assert_eq!(judge(to + 1, to + 9, reached), 2);
+        let on_the_limit = if reached { 3 } else { 2 };
+        assert_eq!(judge(from - 9, from, reached), on_the_limit);
+        assert_eq!(judge(to, to + 9, reached), on_the_limit);
+    }
+}
+
+/// Document 01's inequality with CE = y² × the plain sum, where hydrogen is a
+/// fraction of u and 10^9 y² a whole number.
+fn holds(record: &Record, hydrogen: Fraction, square: i128) -> bool {
+    let check = Conductivity::of(record).expect("all ions");
+    let others = check.plain.sum_at(0);
+    let by_hydrogen = check.plain.sum_at(1) - others;
+    let sum = by_hydrogen * hydrogen.numerator + others * hydrogen.denominator;
+    let tenths = i128::from(record.conductivity);
+    let measured = tenths * CONDUCTIVITY_TENTH * SQUARE_UNIT * hydrogen.denominator;
+    100 * (square * sum - measured).abs() <= conductivity_limit(record.conductivity) * measured
+}
+
+/// "The inequality holds for every hydrogen of 01's rule with every y² in its
+/// bracket; outside: for none; else undecided": by trial, from next to one end of
+/// hydrogen to next to the other and from one end of the bracket to the other.
+#[test]
+fn conductivity_is_that_of_every_choice() {
+    let mut generator = Generator::new(12);
+    let mut times = [0; 5];
+    for _ in 0..400 {
+        let bottle = plausible(&mut generator);
+        for tenths in tenths_at_edges(&bottle) {
+            let record = record(&bottle.conductivity(tenths));
+            let verdict = conductivity(&record);
+            let choices = choices(&record);
+            let every = choices
+                .iter()
+                .all(|&(hydrogen, square)| holds(&record, hydrogen, square));
+            let none = !choices
+                .iter()
+                .any(|&(hydrogen, square)| holds(&record, hydrogen, square));
+            let due = match (every, none) {
+                (true, _) => Verdict::Within,
+                (_, true) => Verdict::Outside,
+                _ => Verdict::Undecided,
+            };
+            assert_eq!(verdict, due, "{record:?}");
+            times[verdict.number() as usize] += 1;
+        }
+    }
+    assert!(times[1..=3].iter().all(|&times| times > 200), "{times:?}");
+}
+
+/// Hydrogen, a millionth of u from its ends where these aren't reached, and y².
+fn choices(record: &Record) -> Vec<(Fraction, i128)> {
+    let (h, is_whole) = (
+        i128::from(record.ph.floor()),
+        record.ph.has_whole_hydrogen(),
+    );
+    let denominator = 1_000_000;
+    let parts = if is_whole {
+        vec![0]
+    } else {
+        vec![1, denominator / 2, denominator - 1]
+    };
+    let check = Conductivity::of(record).expect("all ions");
+    let Bracket { least, greatest } = check.bracket(h, is_whole);
+    let squares = [least, (least + greatest) / 2, greatest];
+    let hydrogen = parts.into_iter().map(|part| Fraction {
+        numerator: h * denominator + part,
+        denominator,
+    });
+    hydrogen
+        .flat_map(|hydrogen| squares.map(|square| (hydrogen, square)))
+        .collect()
+}
+
+/// Row 20 of the manual's sheet: within by the plain sum, and published as
+/// outside.
+#[test]
+fn the_manual_s_row_20_is_outside_when_corrected() {
+    let amounts = [2_700, 3_400, 4_700, 28_700, 2_200, 8_300, 3_700, 61_200];
+    let bottle = Bottle::without_ions().ph(466).conductivity(411);
+    let ions = amounts.into_iter().enumerate();
+    let bottle = ions.fold(bottle, |bottle, (ion, amount)| bottle.amount(ion, amount));
+    let row = record(&bottle);
+    assert_eq!(
+        (plain_conductivity(&row), conductivity(&row)),
+        (Verdict::Within, Verdict::Outside)
+    );
 }

@@ -192,7 +192,7 @@ fn every_refusal_of_a_batch_comes_in_the_first_and_in_the_second() {
     let mut generator = Generator::new(40);
     let mut times = [[0; 11]; 2];
     let mut both = [0; 2];
-    for _ in 0..40_000 {
+    for _ in 0..80_000 {
         let mut day = day(&mut generator, 2);
         damage_some(&mut generator, &mut day);
         let due = match [0, 1].map(|place| answers::batch(&day[place]).err()) {

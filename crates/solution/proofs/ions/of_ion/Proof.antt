@@ -1,5 +1,5 @@
 -- Each product is that of the row, and fits.
-use Rattle.solution.proofs.IonLaws.{cation-fits, anion-fits, both-fit, conducting-fits, adds}
+use Rattle.solution.proofs.IonLaws.{cation-fits, anion-fits, both-fit, conducting-fits, strength-fits, adds}
 use borrow.Author.Needs.{needs}
 use Rattle.solution.proofs.ions.of_ion.Statement.{statement}
 use Rattle.solution.proofs.ions.of_ion.Tie as tie
@@ -13,4 +13,5 @@ of-ion-spec =
     (λ c κs. search anion-fits)
     (λ c κs. search both-fit)
     (λ c κs. search conducting-fits)
+    (λ c κs. search strength-fits)
     (λ c. search adds))

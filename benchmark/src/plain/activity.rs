@@ -1,0 +1,31 @@
+//! The correction y² of conductivity, by ionic strength.
+//!
+//! A strength is given as the sum of charge in u times the ion's charge, so that
+//! 2 × 10^15 of them are a mol/L.
+
+use crate::numbers::POWERS;
+
+/// The strength whose root is a millionth.
+const SQUARE: u64 = 2_000;
+
+/// The exponent s/(1 + s) − 0.3 s² in thousandths, as numerator and denominator,
+/// for s of so many millionths.
+fn exponent(root: u64) -> (u64, u64) {
+    let sum = 1_000_000 + root;
+    let numerator = 10_000_000_000_000 * root - 3 * root * root * sum;
+    (numerator, 10_000_000_000 * sum)
+}
+
+/// The least and the greatest 10^9 y² at a strength from `least` to `greatest`,
+/// which is the same or one more: no square lies between them, so the upper root
+/// is the lower one or the next.
+pub fn bracket(least: u64, greatest: u64, powers: &[u64; POWERS]) -> (u64, u64) {
+    let lower = (least / SQUARE).isqrt();
+    let upper = lower + u64::from(SQUARE * lower * lower < greatest);
+    let (small, small_whole) = exponent(lower);
+    let (great, great_whole) = exponent(upper);
+    (
+        powers[great.div_ceil(great_whole) as usize],
+        powers[(small / small_whole) as usize] + 1,
+    )
+}
