@@ -8,7 +8,7 @@ use Rattle.refusal.specs.Outcome.Outcome.{given, refused}
 use Rattle.reading.specs.declared.Reading.{Reading}
 use Rattle.reading.specs.declared.Analyte.{Analyte}
 use Rattle.reading.specs.Amounts.{mostMass, Amount, amountOf}
-use Rattle.reading.specs.Analytes.{massIn, massOf, analyteOf, rangeOf}
+use Rattle.reading.specs.Analytes.{massIn, massOf, analyteOf, rangeOf, AmountRangeLaws}
 use Rattle.reading.proofs.AmountProofs.{amount-laws}
 
 -- an amount is at most that of 200 mg/L
@@ -30,6 +30,13 @@ range-ordered a = omega arith
 pub range-most : (r : Reading) → rangeOf (analyteOf r) .most ≤ mostMass
 unfolding rangeOf
 range-most r = mass-most r
+
+own : (r : Reading) → (rangeOf (analyteOf r) .least ≤ massOf r) × (massOf r ≤ rangeOf (analyteOf r) .most)
+unfolding rangeOf
+own r = (omega arith, omega arith)
+
+pub amount-range-laws : AmountRangeLaws
+amount-range-laws = record { ordered = range-ordered; own = own; most = range-most }
 
 -- each reading stands for its one amount. No other law says so
 pub range-point : (a : Analyte) → (rangeOf a .least ≡ a .mass .0) × (rangeOf a .most ≡ a .mass .0)

@@ -12,7 +12,7 @@ use Rattle.reading.specs.declared.Analyte.{Analyte}
 use Rattle.reading.specs.Ranges.{isValue, isLimit}
 use Rattle.reading.specs.Readings.{isInRange, InRange}
 use Rattle.reading.specs.Amounts.{Amount, valueMass, halfMass, valueAmount, halfAmount, amountOf}
-use Rattle.reading.specs.Analytes.{present, massIn, massOf, analyteOf, withAmount}
+use Rattle.reading.specs.Analytes.{present, massIn, massOf, limitOf, analyteOf, withAmount}
 use Rattle.reading.proofs.Tested.{refuses, gives}
 
 -- ---- the mass of a reading in range
@@ -46,10 +46,14 @@ mass-there Missing h t = absurd (true≢false (sym t))
 mass-there (Measured x) h t = rw h
 mass-there (Below x) h t = rw h
 
--- ---- a reading that was read, with its mass
-pub read-with : (o : Outcome Reading) (r : Reading) (m : ℕ) → given r ≡ o → m ≡ massOf r → given (record { reading = r; mass = record { 0 = m } }) ≡ withAmount o
+-- ---- a reading with its amounts
+pub with-amounts : {r q : Reading} {m l : ℕ} → q ≡ r → m ≡ massOf q → l ≡ limitOf q → record { reading = q; mass = record { 0 = m }; limit = record { 0 = l } } ≡ analyteOf r
+with-amounts is e f = rw (sym is, e, f)
+
+-- one that was read
+pub read-with : (o : Outcome Reading) (r : Reading) (a : Analyte) → given r ≡ o → a ≡ analyteOf r → given a ≡ withAmount o
 unfolding withAmount
-read-with o r m e f = rw (sym e, f)
+read-with o r a e f = rw (sym e, f)
 
 -- ---- what an answer tells
 pub was-analyte : (o : Outcome Reading) (a : Analyte) → given a ≡ withAmount o → (o ≡ given (a .reading)) × (a ≡ analyteOf (a .reading))

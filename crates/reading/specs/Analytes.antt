@@ -1,6 +1,6 @@
 -- Document 01, 'A reading': a reading of a record with its amount, as the checks and the comparison of two records look at it.
 use mathlib.Core.Bool.{Bool, true, false}
-use Prim.Native.Nat.{ℕ}
+use Prim.Native.Nat.{ℕ, _≤_}
 use Rattle.refusal.specs.Outcome.{Outcome}
 use Rattle.refusal.specs.Outcome.Outcome.{given, refused}
 use Rattle.reading.specs.declared.Reading.{Reading}
@@ -8,7 +8,7 @@ use Rattle.reading.specs.declared.Reading.the-variants.{Missing, Measure
 use Rattle.reading.specs.declared.Analyte.{Analyte}
 use Rattle.reading.specs.declared.MassRange.{MassRange}
 use Rattle.reading.specs.Readings.{readingOf}
-use Rattle.reading.specs.Amounts.{Amount, amountOf}
+use Rattle.reading.specs.Amounts.{mostMass, Amount, amountOf}
 
 abbrev pub present : Reading → Bool
 present Missing = false
@@ -24,9 +24,15 @@ massIn (refused n) = 0
 unfoldable pub massOf : Reading → ℕ
 massOf r = massIn (amountOf r)
 
--- a reading with its amount
+-- the amount of a below reading's limit itself: what the same float has as a measured value. Any other reading has no limit
+abbrev pub limitOf : Reading → ℕ
+limitOf Missing = 0
+limitOf (Measured x) = 0
+limitOf (Below x) = massOf (Measured x)
+
+-- a reading with its amount, and that of its limit
 abbrev pub analyteOf : Reading → Analyte
-analyteOf r = record { reading = r; mass = record { 0 = massOf r } }
+analyteOf r = record { reading = r; mass = record { 0 = massOf r }; limit = record { 0 = limitOf r } }
 
 unfoldable pub withAmount : Outcome Reading → Outcome Analyte
 withAmount (given r) = given (analyteOf r)
@@ -44,6 +50,14 @@ pub record AmountRange : Type 0 where
 -- each reading stands for its one amount. `solution` and `judge` never open this definition: they know the laws of `AmountRangeLaws` alone
 unfoldable pub rangeOf : Analyte → AmountRange
 rangeOf a = record { least = a .mass .0; most = a .mass .0 }
+
+-- what the definition of a range is worth
+pub record AmountRangeLaws : Type 0 where
+  -- of any analyte, also one made by hand, it has an amount
+  pub ordered : (a : Analyte) → rangeOf a .least ≤ rangeOf a .most
+  -- of one whose amounts are its reading's, it has the reading's amount, and none above that of 200 mg/L
+  pub own : (r : Reading) → (rangeOf (analyteOf r) .least ≤ massOf r) × (massOf r ≤ rangeOf (analyteOf r) .most)
+  pub most : (r : Reading) → rangeOf (analyteOf r) .most ≤ mostMass
 
 -- what was answered
 abbrev pub rangeIn : MassRange → AmountRange

@@ -1,22 +1,35 @@
-// The amount of a reading in range, by one match on its enum.
+// A reading in range with its amounts, by one match on its enum.
+use crate::Analyte;
 use crate::Mass;
 use crate::Reading;
 use crate::rounding;
 ghost use mathlib.Core.Path.{_≡_};
 ghost use Rattle.reading.specs.Readings.{InRange};
-ghost use Rattle.reading.specs.Analytes.{massOf};
+ghost use Rattle.reading.specs.Analytes.{analyteOf};
 
 // Document 01's forms: 'The enum for a reading has cases holding f32; conversion and verdicts match on it', and for half a
 // limit 'f32 multiplication with the stated exact case, then bits taken apart to whole µg/L', to tenths of one since document
 // 02 (i). Every amount is made here, that of a record's reading and that of a reading made by hand; the range is tested
 // before, once.
-pub fn of_reading(reading: Reading) -> Mass
+pub fn of_reading(reading: Reading) -> Analyte
     requires { ⌜ InRange reading ⌝ }
-    ensures { λ r. ⌜ r .0 ≡ massOf reading ⌝ }
+    ensures { λ r. ⌜ r ≡ analyteOf reading ⌝ }
 {
     match reading {
-        Reading::Missing => Mass(0),
-        Reading::Measured(value) => Mass(rounding::mass_of_value(value)),
-        Reading::Below(limit) => Mass(rounding::mass_of_value(limit * 0.5)),
+        Reading::Missing => Analyte {
+            reading,
+            mass: Mass(0),
+            limit: Mass(0),
+        },
+        Reading::Measured(value) => Analyte {
+            reading,
+            mass: Mass(rounding::mass_of_value(value)),
+            limit: Mass(0),
+        },
+        Reading::Below(limit) => Analyte {
+            reading,
+            mass: Mass(rounding::mass_of_value(limit * 0.5)),
+            limit: Mass(rounding::mass_of_value(limit)),
+        },
     }
 }

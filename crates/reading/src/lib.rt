@@ -10,7 +10,7 @@ ghost use mathlib.Core.Path.{_≡_};
 ghost use Rattle.reading.specs.Answers.{readingOutcome, wordsOutcome, amountOutcome, analyteOutcome};
 ghost use Rattle.reading.specs.Readings.{analysedOf, readingOf, wordsOf, WordLaws};
 ghost use Rattle.reading.specs.Amounts.{amountOf, AmountLaws};
-ghost use Rattle.reading.specs.Analytes.{present, analyteFrom, rangeOf, rangeIn};
+ghost use Rattle.reading.specs.Analytes.{present, analyteFrom, rangeOf, rangeIn, AmountRangeLaws};
 
 // The greatest amount, and the scale of amounts, for a crate that says how great sums or limits are.
 pub use rounding::MOST_MASS;
@@ -38,10 +38,11 @@ pub struct Words {
 // A mass concentration in tenths of a µg/L, held apart from charge and conductivity by its type.
 pub struct Mass(pub u64);
 
-// A reading of a record with its amount, 0 where it is missing.
+// A reading of a record with its amount, 0 where it is missing, and the amount of the limit that it is below, 0 where it has none.
 pub struct Analyte {
     pub reading: Reading,
     pub mass: Mass,
+    pub limit: Mass,
 }
 
 // From the least to the greatest amount that a check takes a reading for.
@@ -151,29 +152,23 @@ impl Reading {
         if !ranges::is_in_range(self) {
             return AmountResult::Refused(Refusal::Reading);
         }
-        let mass = amounts::of_reading(self);
-        let analyte = Analyte {
-            reading: self,
-            mass,
-        };
+        let analyte = amounts::of_reading(self);
         if !analyte.is_present() {
             return AmountResult::Missing;
         }
+        let mass = analyte.mass;
         AmountResult::Given(mass)
     }
 }
 
 impl Analyte {
-    // The reading that two words of a record hold, with its amount. What was read is in range, so that its float is
+    // The reading that two words of a record hold, with its amounts. What was read is in range, so that its float is
     // tested once.
     pub fn from_words(mark: u32, bits: u32) -> AnalyteResult
         ensures { λ r. ⌜ analyteOutcome r ≡ analyteFrom mark bits ⌝ }
     {
         match Reading::from_words(mark, bits) {
-            ReadingResult::Given(reading) => AnalyteResult::Given(Analyte {
-                reading,
-                mass: amounts::of_reading(reading),
-            }),
+            ReadingResult::Given(reading) => AnalyteResult::Given(amounts::of_reading(reading)),
             ReadingResult::Refused(why) => AnalyteResult::Refused(why),
         }
     }
@@ -191,7 +186,8 @@ impl Analyte {
 
     // Every reading stands for its one amount.
     pub fn range(self) -> MassRange
-        ensures { λ r. ⌜ rangeIn r ≡ rangeOf self ⌝ }
+        ensures answer { λ r. ⌜ rangeIn r ≡ rangeOf self ⌝ }
+        ensures laws { λ r. ⌜ AmountRangeLaws ⌝ }
     {
         let mass = self.mass;
         MassRange {

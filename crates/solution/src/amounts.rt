@@ -2,16 +2,13 @@
 use reading::Analyte;
 use reading::Mass;
 ghost use mathlib.Core.Path.{_≡_};
-ghost use Prim.Native.Nat.{_<_};
-ghost use Rattle.record.specs.Record.{readings};
-ghost use Rattle.solution.specs.ByValue.{amountAt};
+ghost use Rattle.reading.specs.Analytes.{rangeOf};
+ghost use Rattle.solution.specs.ByValue.{endOf};
 
 // Its greatest amount where that is asked for, else its least.
-pub fn at_end(analytes: [Analyte; record::READINGS], i: usize, greatest: bool) -> Mass
-    requires { ⌜ i < readings ⌝ }
-    ensures { λ r. ⌜ r .0 ≡ amountAt greatest analytes i ⌝ }
+pub fn at_end(analyte: Analyte, greatest: bool) -> Mass
+    ensures { λ r. ⌜ r .0 ≡ endOf greatest (rangeOf analyte) ⌝ }
 {
-    let analyte = analytes[i];
     let range = analyte.range();
     if greatest {
         return range.most;

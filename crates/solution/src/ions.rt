@@ -136,7 +136,8 @@ pub fn sums_of(analytes: [Analyte; record::READINGS], greatest: bool) -> Eight
     let mut conductivity = Conductivity(0);
     let mut i: usize = 0;
     while i < IONS {
-        let ion = of_ion(i, amounts::at_end(analytes, i, greatest));
+        let analyte = analytes[i];
+        let ion = of_ion(i, amounts::at_end(analyte, greatest));
         cations = cations.plus(ion.cation);
         anions = anions.plus(ion.anion);
         conductivity = conductivity.plus(ion.conductivity);
@@ -157,7 +158,8 @@ pub fn strength_of(analytes: [Analyte; record::READINGS], greatest: bool) -> Ion
     let mut strength = IonicStrength(0);
     let mut i: usize = 0;
     while i < IONS {
-        let ion = of_ion(i, amounts::at_end(analytes, i, greatest));
+        let analyte = analytes[i];
+        let ion = of_ion(i, amounts::at_end(analyte, greatest));
         strength = strength::plus(strength, ion.strength);
         i += 1;
     }
@@ -183,14 +185,10 @@ pub fn sodium_chloride(analytes: [Analyte; record::READINGS], greatest: bool) ->
     requires { ⌜ Small analytes ⌝ }
     ensures { λ r. ⌜ RatioOf greatest analytes r ⌝ }
 {
-    let sodium = of_ion(
-        record::SODIUM,
-        amounts::at_end(analytes, record::SODIUM, greatest),
-    );
-    let chloride = of_ion(
-        record::CHLORIDE,
-        amounts::at_end(analytes, record::CHLORIDE, greatest),
-    );
+    let sodium = analytes[record::SODIUM];
+    let chloride = analytes[record::CHLORIDE];
+    let sodium = of_ion(record::SODIUM, amounts::at_end(sodium, greatest));
+    let chloride = of_ion(record::CHLORIDE, amounts::at_end(chloride, greatest));
     let sodium = sodium.cation;
     let chloride = chloride.anion;
     SodiumChloride { sodium, chloride }

@@ -117,9 +117,12 @@ fn nitrogen(analytes: [Analyte; record::READINGS], greatest: bool) -> Nitrogen
     requires { ⌜ Small analytes ⌝ }
     ensures { λ r. ⌜ NitrogenOf greatest analytes r ⌝ }
 {
-    let nitrate = amounts::at_end(analytes, record::NITRATE, greatest);
-    let ammonium = amounts::at_end(analytes, record::AMMONIUM, greatest);
-    let total = amounts::at_end(analytes, record::TOTAL_NITROGEN, greatest);
+    let nitrate = analytes[record::NITRATE];
+    let ammonium = analytes[record::AMMONIUM];
+    let total = analytes[record::TOTAL_NITROGEN];
+    let nitrate = amounts::at_end(nitrate, greatest);
+    let ammonium = amounts::at_end(ammonium, greatest);
+    let total = amounts::at_end(total, greatest);
     let mineral = plus(nitrate, ammonium);
     Nitrogen { mineral, total }
 }

@@ -15,13 +15,13 @@ returns-2 c = no-chloride _ _ _ _ (le-leb _ _ (c .before .before .before .if1 .l
 returns-3 : tie.Need-returns-3
 returns-3 c = let range = c .before .before in
     let there = range .before in
-    chloride-zero _ _ _ _ (le-leb _ _ (there .before .before .if1 .left)) (there .match .keys2) (least-is (range .range .ensures) (eq-eqb _ _ (c .if2 .taken)))
+    chloride-zero _ _ _ _ (le-leb _ _ (there .before .before .if1 .left)) (there .match .keys2) (least-is (range .range .ensures .0) (eq-eqb _ _ (c .if2 .taken)))
 
 returns-4 : tie.Need-returns-4
 returns-4 c = let some = c .before .before .before in
     let range = some .before .before in
     let there = range .before in
-    no-sodium _ _ _ _ (le-leb _ _ (there .before .before .if1 .left)) (there .match .keys2) (least-is (range .range .ensures) (ne-eqb _ _ (some .if2 .left)))
+    no-sodium _ _ _ _ (le-leb _ _ (there .before .before .if1 .left)) (there .match .keys2) (least-is (range .range .ensures .0) (ne-eqb _ _ (some .if2 .left)))
     (c .enum-told2 .given .1)
 
 decide-requires : tie.Need-decide-requires
@@ -36,7 +36,7 @@ returns-5 c = let window = c .before in
     let some = both .before .before in
     let range = some .before .before in
     let there = range .before in
-    ratio-decided _ _ _ _ (le-leb _ _ (there .before .before .if1 .left)) (there .match .keys2) (least-is (range .range .ensures) (ne-eqb _ _ (some .if2 .left)))
+    ratio-decided _ _ _ _ (le-leb _ _ (there .before .before .if1 .left)) (there .match .keys2) (least-is (range .range .ensures .0) (ne-eqb _ _ (some .if2 .left)))
     (both .match2 .keys2) (rw (window .window .ensures, made .of-charges2 .ensures, made .before .of-charges .ensures) at (c .decide .ensures))
 
 pub of-record-spec : {M : Type 1} → statement M

@@ -10,11 +10,13 @@ use Rattle.solution.proofs.ions.sodium_chloride.Statement.{statement}
 use Rattle.solution.proofs.ions.sodium_chloride.Tie as tie
 
 of-ion-requires : tie.Need-of-ion-requires
-of-ion-requires c κs = (omega arith, next-small (c .before .args .greatest) _ (c .before .pre) sodium (omega arith) (c .at-end .ensures))
+of-ion-requires c κs =
+    let start = c .before .before .before in
+    (omega arith, next-small (start .args .greatest) _ (start .pre) sodium (omega arith) (c .at-end .ensures))
 
 of-ion-requires-2 : tie.Need-of-ion-requires-2
 of-ion-requires-2 c κs =
-    let start = c .before .before .before in
+    let start = c .before .before .before .before .before in
     (omega arith, next-small (start .args .greatest) _ (start .pre) chloride (omega arith) (c .at-end2 .ensures))
 
 returns : tie.Need-returns
@@ -30,6 +32,8 @@ pub sodium-chloride-spec : {M : Type 1} → statement M
 sodium-chloride-spec =
     tie.close
     (tie.spec
+    (λ c. search needs)
+    (λ c. search needs)
     (λ c κs. search needs)
     of-ion-requires
     (λ c κs. search needs)

@@ -13,10 +13,10 @@ use Rattle.solution.proofs.ions.strength_of.Statement.{statement}
 use Rattle.solution.proofs.ions.strength_of.Tie as tie
 
 abbrev Inv-loop : tie.InvT-loop
-Inv-loop analytes greatest strength₀ i₀ strength i = (i ≤ ions) × (strength .0 ≡ sum (λ k. strengthAdded k * amountAt greatest analytes k) i)
+Inv-loop greatest analytes strength₀ i₀ strength i = (i ≤ ions) × (strength .0 ≡ sum (λ k. strengthAdded k * amountAt greatest analytes k) i)
 
 abbrev μ-loop : tie.MeasureT-loop
-μ-loop analytes greatest strength₀ i₀ strength i = ions - i
+μ-loop greatest analytes strength₀ i₀ strength i = ions - i
 
 loop-holds : tie.Need-loop-holds Inv-loop μ-loop
 unfolding sum
@@ -31,16 +31,16 @@ plus-requires c κs = search strength-next
 loop-again : tie.Need-loop-again Inv-loop μ-loop
 loop-again c =
     let ion = c .before in
-    let at = ion .before .before .before .loop in
-    let args = ion .before .before .before .before .args in
-    let a = amountAt (args .greatest) (args .analytes) in
+    let at = ion .before .before .before .before .loop in
+    let args = ion .before .before .before .before .before .args in
+    let a = amountAt (args .greatest) (args .t1) in
     let adds : Adds (at .i) (a (at .i)) (ion .of-ion .result) = rw (ion .before .at-end .ensures) at (ion .of-ion .ensures) in
     (omega arith, c .plus .ensures ∙ ap₂ (λ (x y : ℕ). x + y) (at .inv .1) (adds .strength) ∙ sym (sum-next (λ k. strengthAdded k * a k) (at .i)))
 
 returns : tie.Need-returns Inv-loop μ-loop
 returns c =
     let args = c .before .before .args in
-    let a = amountAt (args .greatest) (args .analytes) in
+    let a = amountAt (args .greatest) (args .t1) in
     let at = c .before .loop in
     let e : at .i ≡ ions = omega arith in
     at .inv .1 ∙ ap (sum (λ k. strengthAdded k * a k)) e ∙ sym (strength-only a)
@@ -52,6 +52,8 @@ strength-of-spec =
     Inv-loop
     μ-loop
     loop-holds
+    (λ c. search needs)
+    (λ c. search needs)
     (λ c κs. search needs)
     of-ion-requires
     plus-requires

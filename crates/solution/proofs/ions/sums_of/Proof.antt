@@ -13,14 +13,14 @@ use Rattle.solution.proofs.ions.sums_of.Statement.{statement}
 use Rattle.solution.proofs.ions.sums_of.Tie as tie
 
 abbrev Inv-loop : tie.InvT-loop
-Inv-loop analytes greatest cations₀ anions₀ conductivity₀ i₀ cations anions conductivity i =
+Inv-loop greatest analytes cations₀ anions₀ conductivity₀ i₀ cations anions conductivity i =
     (i ≤ ions)
     × (cations .0 ≡ sum (λ k. cationCharge k * amountAt greatest analytes k) i)
     × (anions .0 ≡ sum (λ k. anionCharge k * amountAt greatest analytes k) i)
     × (conductivity .0 ≡ sum (λ k. conducted k * amountAt greatest analytes k) i)
 
 abbrev μ-loop : tie.MeasureT-loop
-μ-loop analytes greatest cations₀ anions₀ conductivity₀ i₀ cations anions conductivity i = ions - i
+μ-loop greatest analytes cations₀ anions₀ conductivity₀ i₀ cations anions conductivity i = ions - i
 
 loop-holds : tie.Need-loop-holds Inv-loop μ-loop
 unfolding sum
@@ -47,9 +47,9 @@ loop-less c = omega arith
 loop-again : tie.Need-loop-again Inv-loop μ-loop
 loop-again c =
     let ion = c .before .before .before in
-    let at = ion .before .before .before .loop in
-    let args = ion .before .before .before .before .args in
-    let a = amountAt (args .greatest) (args .analytes) in
+    let at = ion .before .before .before .before .loop in
+    let args = ion .before .before .before .before .before .args in
+    let a = amountAt (args .greatest) (args .t1) in
     let i = at .i in
     let adds : Adds i (a i) (ion .of-ion .result) = rw (ion .before .at-end .ensures) at (ion .of-ion .ensures) in (
       omega arith,
@@ -61,7 +61,7 @@ loop-again c =
 returns : tie.Need-returns Inv-loop μ-loop
 returns c =
     let args = c .before .before .args in
-    let a = amountAt (args .greatest) (args .analytes) in
+    let a = amountAt (args .greatest) (args .t1) in
     let at = c .before .loop in
     let e : at .i ≡ ions = omega arith in
     record {
@@ -77,6 +77,8 @@ sums-of-spec =
     Inv-loop
     μ-loop
     loop-holds
+    (λ c. search needs)
+    (λ c. search needs)
     (λ c κs. search needs)
     of-ion-requires
     plus-requires

@@ -9,7 +9,7 @@ use Rattle.solution.proofs.one_end.nitrogen.Tie as tie
 
 plus-requires : tie.Need-plus-requires
 plus-requires c κs =
-    let start = c .before .before .before in
+    let start = c .before .before .before .before .before .before in
     let small = start .pre .most (start .args .greatest) in
     omega (arith, small nitrate (omega arith), small ammonium (omega arith), c .before .before .at-end .ensures, c .before .at-end2 .ensures)
 
@@ -23,4 +23,14 @@ returns c =
     }
 
 pub nitrogen-spec : {M : Type 1} → statement M
-nitrogen-spec = tie.close (tie.spec (λ c κs. search needs) (λ c κs. search needs) (λ c κs. search needs) plus-requires returns)
+nitrogen-spec =
+    tie.close
+    (tie.spec
+    (λ c. search needs)
+    (λ c. search needs)
+    (λ c. search needs)
+    (λ c κs. search needs)
+    (λ c κs. search needs)
+    (λ c κs. search needs)
+    plus-requires
+    returns)

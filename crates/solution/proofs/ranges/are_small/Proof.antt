@@ -30,7 +30,7 @@ loop-holds c = (search needs, sym (all-none _))
 loop-again : tie.Need-loop-again Inv-loop μ-loop
 loop-again c = let at = c .before .before .before .before .loop in
     let analytes = c .before .before .before .before .before .args .t1 in
-    let most = ap (λ (r : AmountRange). leb (r .most) mostMass) (c .before .range .ensures) in
+    let most = ap (λ (r : AmountRange). leb (r .most) mostMass) (c .before .range .ensures .0) in
     (search needs, ap₂ (λ (a b : Bool). a && b) (at .inv .1) most ∙ sym (all-next (small-at analytes) (at .i)))
 
 returns : tie.Need-returns Inv-loop μ-loop
