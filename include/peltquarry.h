@@ -3,7 +3,8 @@
  *
  * A record, a docket, a batch and an answer are words of 32 bits, lent as a pointer and a number of words. Where each word stands
  * and how many there are is named below; what they mean stands in document 01, 'A record', 'A reading' and 'A batch',
- * and in document 02 (i) to (iii): readings are floats in mg/L as before; the values of a chart are in tenths of a µg/L, like the
+ * and in document 02 (i) to (iii) and (vi): readings are floats in mg/L as before, and one below its limit stands for every amount
+ * from 0 to the limit's in the checks, and for half the limit where two records are compared; the values of a chart are in tenths of a µg/L, like the
  * amounts that readings are rounded to; a sample's number has up to 15 digits, and two words; two batches of one day are joined.
  *
  * Every call returns 0 where it did what was asked, else the number of a refusal:
@@ -142,7 +143,10 @@ extern "C" {
 #define PELTQUARRY_MOST_LINE (PELTQUARRY_NUMBER_DIGITS + 2 * (PELTQUARRY_ROW_WORDS - PELTQUARRY_ROW_VERDICTS) + 1)
 #define PELTQUARRY_MOST_TEXT (3 + 1 + PELTQUARRY_MOST_SAMPLES * PELTQUARRY_MOST_LINE)
 
-/* Verdicts. Calculated conductivity is corrected for ionic strength; that verdict may be undecided at any pH. */
+/*
+ * Verdicts. 'Within' and 'outside' hold for every amount that readings below their limits stand for; any of the four checks may be
+ * undecided, at any pH. Calculated conductivity is corrected for ionic strength.
+ */
 #define PELTQUARRY_NOT_APPLICABLE 0
 #define PELTQUARRY_WITHIN 1
 #define PELTQUARRY_OUTSIDE 2

@@ -1,4 +1,4 @@
-//! The numbers of documents 01 and 02 (i) to (v) that both sides of a row go by: where words
+//! The numbers of documents 01 and 02 (i) to (vi) that both sides of a row go by: where words
 //! stand, how many there are and how far values reach.
 
 // A record.
@@ -45,7 +45,7 @@ pub const PER_MILLIGRAM: u32 = 10_000;
 pub const AMOUNT_CHARGE: u64 = 1_000;
 pub const ALKALINITY_CHARGE: u64 = 100_000_000;
 /// Runoff with less organic carbon has an ion balance.
-pub const CARBON_LINE: u64 = 5 * PER_MILLIGRAM as u64;
+pub const CARBON_LINE: u32 = 5 * PER_MILLIGRAM;
 
 pub const CHECKS: usize = 4;
 

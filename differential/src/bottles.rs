@@ -1,5 +1,6 @@
 //! Bottles drawn at random whose records their own tests let pass.
 
+use crate::below::some_below;
 use crate::floats::{any_reading, scattered_reading};
 use crate::numbers::{
     AMMONIUM, CONDUCTIVITY_TENTH, IONS, LEAST_PH, MOST_ALKALINITY, MOST_AMOUNT, MOST_CONDUCTIVITY,
@@ -16,13 +17,18 @@ use reference::ions::{
     alkalinity_charge, charge, ALKALINITY_CONDUCTANCE, ANIONS, CATIONS, HYDROGEN_CONDUCTANCE, TABLE,
 };
 
-/// Now as from the field, now anything a record may hold; of each some with a
-/// measured conductivity next to an end of their bracket.
+/// Now as from the field, now anything a record may hold; of each some with one to
+/// ten readings below their limits, and some with a measured conductivity next to
+/// an end of their bracket.
 pub fn any_bottle(generator: &mut Generator) -> Bottle {
     let bottle = if generator.once_in(4) {
         scattered(generator)
     } else {
         everyday(generator)
+    };
+    let bottle = match generator.below(4) {
+        0 => some_below(generator, &bottle),
+        _ => bottle,
     };
     if generator.once_in(8) {
         on_an_end(generator, bottle)
@@ -186,7 +192,7 @@ mod tests {
     }
 
     #[test]
-    fn every_verdict_but_an_undecided_balance_is_common() {
+    fn every_verdict_is_common() {
         let mut generator = Generator::new(2);
         let mut times = [[0; 5]; CHECKS];
         for _ in 0..5_000 {
@@ -195,13 +201,10 @@ mod tests {
                 times[check][verdict as usize] += 1;
             }
         }
-        for (check, verdicts) in [[0, 1, 2, 4], [1, 2, 3, 4], [0, 1, 2, 4], [0, 1, 2, 4]]
-            .into_iter()
-            .enumerate()
-        {
-            assert!(verdicts
-                .iter()
-                .all(|&verdict: &usize| times[check][verdict] > 50));
+        // Conductivity applies to every kind.
+        for (check, first) in [0, 1, 0, 0].into_iter().enumerate() {
+            let common = times[check][first..].iter().all(|&times| times > 50);
+            assert!(common, "{times:?}");
         }
     }
 

@@ -2,32 +2,37 @@
 
 mod activity;
 mod amounts;
+mod conducting;
+mod dockets;
 mod floors;
+mod halves;
 mod joins;
 mod list;
 mod numbers;
+mod ranges;
 
-pub use list::{Fault, CORRECTION, FAULTS};
+pub use list::{Fault, CORRECTION, FAULTS, OTHER_RANGES};
 
 use crate::answers;
 use crate::library::Library;
 use crate::numbers::{
     BALANCE_CHECK, BULK, CARBON_LINE, CHART_COUNT, CHART_ELEMENT, CHECKS, CONDUCTIVITY_CHECK,
-    COUNT_WORDS, DOCKET_COUNT, DOCKET_RECORD, DOCKET_STATE, DOCKET_WORDS, FIRST_CHART, IONS,
-    MOST_AMOUNT, MOST_BYTES, MOST_ELEMENT, MOST_VALUE, ORGANIC_CARBON, ROW_FLAG, ROW_WORDS, RUNOFF,
-    WORD_BYTES,
+    COUNT_WORDS, DOCKET_COUNT, DOCKET_RECORD, DOCKET_STATE, DOCKET_WORDS, FIRST_CHART, MOST_AMOUNT,
+    MOST_BYTES, MOST_ELEMENT, MOST_VALUE, ORGANIC_CARBON, ROW_FLAG, ROW_WORDS, RUNOFF, WORD_BYTES,
 };
 use crate::stand_in::{write, write_telling, StandIn};
 use activity::judge_by_another_correction;
-use amounts::{in_micrograms, misread, with_amounts};
+use amounts::{misread, with_readings};
+use dockets::restate;
 use floors::judge_by_another_floor;
+use halves::{samples_by_halves, text_by_halves};
 use joins::misjoined;
 use numbers::{misnumbered, misnumbered_rows, offer_by_the_low_part, text_of_low_parts};
+use ranges::judge_by_other_ranges;
 use reference::charts::SEVEN_ON_ONE_SIDE;
 use reference::checks::{
-    conductivity, decide_by, ion_balance, Conductivity, Fraction, Inequality, IonBalance,
+    conductivity, ion_balance, Conductivity, IonBalance, Span, Spans, Verdict,
 };
-use reference::docket::agree;
 use reference::readings::Reading;
 use reference::record::Record;
 use reference::refusals::{BATCH_LENGTH, CHART, DOCKET, OTHER_SAMPLE};
@@ -81,8 +86,6 @@ impl Library for Faulty {
         let before = docket.to_vec();
         let answer = StandIn.offer(docket, words);
         match self.0 {
-            ExactTenthDisagrees if answer == 0 => disagree_at_a_tenth(&before, docket),
-            AgreesInMicrograms if answer == 0 => agree_in_micrograms(&before, docket),
             HoldsTheFirst if answer == 0 && before[DOCKET_COUNT] > 0 => {
                 docket[HELD].copy_from_slice(&before[HELD]);
             }
@@ -97,6 +100,7 @@ impl Library for Faulty {
                 }
                 return answer;
             }
+            fault if answer == 0 => restate(fault, &before, docket),
             _ => {}
         }
         answer
@@ -126,6 +130,9 @@ impl Library for Faulty {
             (LeftoversTaken, Err(BATCH_LENGTH)) => without_leftovers(words, answer),
             (RepeatedElementTaken, Err(_)) => with_other_elements(words, answer),
             (MissingElementFlagged, Ok(_)) => with_all_elements(words, answer),
+            (RowsByHalves, Ok(rows)) => {
+                write(answers::batch(&samples_by_halves(words, rows[0])), answer)
+            }
             (fault, found) => {
                 let rows = found.map(|rows| misnumbered_rows(fault, rows));
                 write(rows, answer)
@@ -148,6 +155,7 @@ impl Library for Faulty {
                 let listed = text_of_low_parts(&answers::list(bytes));
                 write_telling(Ok(listed), text, size)
             }
+            TextByHalves => write_telling(Ok(text_by_halves(bytes)), text, size),
             _ => StandIn.list(bytes, text, size),
         };
         if self.0 == LengthToldWhenRefused && answer != 0 {
@@ -173,13 +181,14 @@ fn distort(fault: Fault, record: &Record, verdicts: &mut [u32]) {
             judge_by_another_floor(fault, record, verdicts);
         }
         _ if CORRECTION.contains(&fault) => judge_by_another_correction(fault, record, verdicts),
+        _ if OTHER_RANGES.contains(&fault) => judge_by_other_ranges(fault, record, verdicts),
         _ => {}
     }
 }
 
 /// Both verdicts that go by hydrogen, with their places, where its floor is h.
 fn verdicts_at(record: &Record, h: i128, is_whole: bool) -> Option<[(usize, u32); 2]> {
-    let balance = decide_by(h, is_whole, &IonBalance::of(record)?);
+    let balance = IonBalance::of(record)?.verdict(h, is_whole);
     let conductivity = Conductivity::of(record)?.verdict(h, is_whole);
     Some([
         (BALANCE_CHECK, balance.number()),
@@ -187,17 +196,25 @@ fn verdicts_at(record: &Record, h: i128, is_whole: bool) -> Option<[(usize, u32)
     ])
 }
 
-/// "Less" in place of "at most": with hydrogen exactly on a limit of the ion
-/// balance, outside. Conductivity is never on one of its limits.
+/// "Less" in place of "at most": with whole hydrogen exactly on a limit of the ion
+/// balance that limit is no longer met. Conductivity is never on one of its
+/// limits.
 fn exclude_the_limit(record: &Record, verdicts: &mut [u32]) {
     let Some(balance) = IonBalance::of(record) else {
         return;
     };
     let h = i128::from(record.ph.floor());
-    let on = |end: Fraction| end.numerator == h * end.denominator;
-    let on_a_limit = on(balance.span().least) || on(balance.span().greatest);
-    if verdicts[BALANCE_CHECK] == 1 && record.ph.has_whole_hydrogen() && on_a_limit {
-        verdicts[BALANCE_CHECK] = 2;
+    let has = |span: Span| {
+        let (least, greatest) = (span.least, span.greatest);
+        least.numerator < h * least.denominator && h * greatest.denominator < greatest.numerator
+    };
+    if matches!(verdicts[BALANCE_CHECK], 1..=3) && record.ph.has_whole_hydrogen() {
+        let Spans {
+            with_every,
+            with_some,
+        } = balance.spans();
+        let verdict = Verdict::of_choices(has(with_every), !has(with_some));
+        verdicts[BALANCE_CHECK] = verdict.number();
     }
 }
 
@@ -231,8 +248,13 @@ fn keep_the_carbon_line(record: &Record, verdicts: &mut [u32]) {
 /// 10^4 u kept for each tenth of a µg/L: as much charge as ten times the amount
 /// has, up to the greatest amount.
 fn keep_the_charge_unit(record: &Record, verdicts: &mut [u32]) {
-    let tenfold = |reading: Reading| Some((10 * reading.amount()?).min(MOST_AMOUNT));
-    let Ok(mut charged) = Record::read(&with_amounts(&record.words, tenfold)) else {
+    let tenfold = |amount: u32| (10 * amount).min(MOST_AMOUNT);
+    let charged = with_readings(&record.words, |_, reading| match reading {
+        Reading::Missing => None,
+        Reading::Measured(_) => Some((1, tenfold(reading.amount()?))),
+        Reading::Below(_) => Some((2, tenfold(reading.range()?.greatest))),
+    });
+    let Ok(mut charged) = Record::read(&charged) else {
         return;
     };
     verdicts[CONDUCTIVITY_CHECK] = conductivity(&charged).number();
@@ -240,49 +262,6 @@ fn keep_the_charge_unit(record: &Record, verdicts: &mut [u32]) {
         // Carbon has no charge: runoff stays on its side of the line.
         charged.kind = BULK;
         verdicts[BALANCE_CHECK] = ion_balance(&charged).number();
-    }
-}
-
-/// The state of a docket whose last record is neither consistent nor confirmed.
-fn doubtful_state(count: u32) -> u32 {
-    if count == 3 {
-        3
-    } else {
-        0
-    }
-}
-
-/// Two records that aren't consistent compared in whole µg/L.
-fn agree_in_micrograms(before: &[u32], docket: &mut [u32]) {
-    let records = [&before[HELD], &docket[HELD]]
-        .map(|words| Record::read(&with_amounts(words, in_micrograms)));
-    let (0 | 2 | 3, 2 | 3, [Ok(first), Ok(second)]) =
-        (docket[DOCKET_STATE], docket[DOCKET_COUNT], records)
-    else {
-        return;
-    };
-    docket[DOCKET_STATE] = if agree(&first, &second) {
-        2
-    } else {
-        doubtful_state(docket[DOCKET_COUNT])
-    };
-}
-
-/// Reopens, or leaves unsettled, a docket that was confirmed with a difference
-/// of exactly a tenth.
-fn disagree_at_a_tenth(before: &[u32], docket: &mut [u32]) {
-    let records = [&before[HELD], &docket[HELD]].map(Record::read);
-    let (2, [Ok(first), Ok(second)]) = (docket[DOCKET_STATE], records) else {
-        return;
-    };
-    let exact = |a: u32, b: u32| a != b && 10 * a.abs_diff(b) == a.max(b);
-    let ions = (0..IONS).filter_map(|ion| Some((first.amount(ion)?, second.amount(ion)?)));
-    let words = [
-        (first.conductivity, second.conductivity),
-        (first.alkalinity, second.alkalinity),
-    ];
-    if words.into_iter().chain(ions).any(|(a, b)| exact(a, b)) {
-        docket[DOCKET_STATE] = doubtful_state(docket[DOCKET_COUNT]);
     }
 }
 
@@ -363,6 +342,29 @@ fn with_all_elements(words: &[u32], answer: &mut [u32]) -> u32 {
         }
     }
     write(found, answer)
+}
+
+/// The words of each stored case of a call.
+#[cfg(test)]
+fn stored_cases(number: u32) -> Vec<Vec<u32>> {
+    let input = reference::cases::replay_input();
+    let words = reference::words::whole_words(&input);
+    let (mut rest, mut cases) = (words.as_slice(), Vec::new());
+    while let Some((&[call, count], after)) = rest.split_first_chunk() {
+        let (case, later) = after.split_at(after.len().min(count as usize));
+        if call == number {
+            cases.push(case.to_vec());
+        }
+        rest = later;
+    }
+    cases
+}
+
+/// The records that the stored cases judge.
+#[cfg(test)]
+fn stored_records() -> Vec<Record> {
+    let cases = stored_cases(7);
+    cases.iter().flat_map(|case| Record::read(case)).collect()
 }
 
 #[cfg(test)]

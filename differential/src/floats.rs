@@ -62,6 +62,12 @@ pub fn any_limit(generator: &mut Generator, amount: u32) -> Option<u32> {
     })
 }
 
+/// A limit that has this amount itself, from `LEAST_LIMIT` to `MOST_AMOUNT`: an
+/// end of its floats or any within. Half of it may round to either side.
+pub fn any_limit_with(generator: &mut Generator, amount: u32) -> u32 {
+    any_float(generator, amount).clamp(LEAST_LIMIT_BITS, MOST_BITS)
+}
+
 /// The mark and the bits of a reading with this amount, mostly measured.
 pub fn any_reading(generator: &mut Generator, amount: u32) -> (u32, u32) {
     let below = generator.once_in(5);
@@ -84,7 +90,7 @@ pub fn scattered_reading(generator: &mut Generator) -> (u32, u32) {
 #[cfg(test)]
 mod tests {
     use super::*;
-    use crate::numbers::{CARBON_LINE, MOST_AMOUNT, MOST_TRACE};
+    use crate::numbers::{CARBON_LINE, LEAST_LIMIT, MOST_AMOUNT, MOST_TRACE};
     use reference::cases::floats::least_float_of;
     use reference::readings::Reading;
 
@@ -124,6 +130,32 @@ mod tests {
                 below |= mark == 2;
             }
             assert_eq!(below, (LEAST_BELOW..=MOST_BELOW).contains(&amount));
+        }
+    }
+
+    /// Of odd amounts half the limit rounds up for some floats and down for others.
+    #[test]
+    fn drawn_limits_have_their_own_amounts() {
+        let mut generator = Generator::new(4);
+        for amount in [
+            LEAST_LIMIT,
+            11,
+            25,
+            313,
+            99_999,
+            MOST_AMOUNT - 1,
+            MOST_AMOUNT,
+        ] {
+            let mut halves = Vec::new();
+            for _ in 0..100 {
+                let below = Reading::below(any_limit_with(&mut generator, amount));
+                let range = below.map(|below| below.range().map(|range| range.greatest));
+                assert_eq!(range, Ok(Some(amount)));
+                halves.extend(below.map(Reading::amount));
+            }
+            halves.sort_unstable();
+            halves.dedup();
+            assert_eq!(halves.len() as u32, 1 + amount % 2, "{amount}");
         }
     }
 

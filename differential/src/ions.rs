@@ -1,9 +1,11 @@
 //! The eight amounts and the alkalinity of a bottle in the making, and what
 //! finds them by remainders.
 
-use crate::floats::ends;
-use crate::numbers::{IONS, MOST_ALKALINITY, MOST_AMOUNT};
+use crate::floats::{any_limit_with, ends};
+use crate::numbers::{IONS, MOST_ALKALINITY, MOST_AMOUNT, MOST_TRACE};
 use reference::cases::bottle::Bottle;
+use reference::cases::generator::Generator;
+use reference::cases::ranges::Below;
 use reference::hydrogen::Ph;
 
 pub struct Ions {
@@ -22,6 +24,15 @@ impl Ions {
         })
     }
 
+    /// The bottle with some ions below their limits, whatever was made up for them.
+    pub fn bottle_with(&self, generator: &mut Generator, ph: Ph, below: &Below) -> Bottle {
+        let limits = below.limits.iter().enumerate();
+        limits.fold(self.bottle(ph), |bottle, (ion, limit)| match limit {
+            Some(limit) => bottle.below(ion, any_limit_with(generator, *limit)),
+            None => bottle,
+        })
+    }
+
     pub fn bottle(&self, ph: Ph) -> Bottle {
         let bottle = Bottle::without_ions()
             .ph(ph.hundredths())
@@ -31,6 +42,17 @@ impl Ions {
             bottle.reading(ion, 1, ends(amount).0)
         })
     }
+}
+
+/// In half of all cases none of these ions is below its limit, else one or more
+/// of them: their limits are traces, or up to as much as the others have.
+pub fn drawn_below(generator: &mut Generator, ions: &[usize], most: u32) -> Below {
+    let count = match generator.below(2) {
+        0 => 0,
+        _ => generator.between(1, ions.len() as u32),
+    };
+    let most = generator.pick(&[30, MOST_TRACE, most.clamp(MOST_TRACE, MOST_AMOUNT)]);
+    Below::drawn(generator, ions, count as usize, most)
 }
 
 /// The inverse of a number by a modulus that shares no factor with it.

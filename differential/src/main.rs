@@ -1,8 +1,9 @@
 //! The proved library against the other implementation of document 01, with
-//! requests (i) to (v) of document 02.
+//! requests (i) to (vi) of document 02.
 
 mod answers;
 mod batches;
+mod below;
 mod bottles;
 #[cfg(not(feature = "stand-in"))]
 mod c_interface;
@@ -17,6 +18,7 @@ mod joins;
 mod library;
 mod numbers;
 mod offers;
+mod on_a_range;
 mod on_an_edge;
 mod on_the_limit;
 mod outcome;

@@ -2,7 +2,7 @@
 //! implementation's to say, as its bottles and batches are what is drawn; how
 //! far values reach is said here once more, by document 01 and by document 02:
 //! request (i) for amounts and chart values, request (ii) for sample numbers,
-//! request (iii) for joins.
+//! request (iii) for joins, request (vi) for the ends of ranges.
 
 // Some of these are for the faults or for tests alone.
 #[allow(unused_imports)]
@@ -13,8 +13,8 @@ pub use reference::numbers::{
     LEAST_LIMIT_BITS, MAGNESIUM, MOST_BATCH, MOST_BITS, MOST_BYTES, NITRATE, NITROGEN_CHECK,
     NUMBER_HIGH, NUMBER_LOW, ORGANIC_CARBON, PH, POTASSIUM, RATIO_CHECK, READINGS, READINGS_END,
     READING_WORDS, RECORD_WORDS, ROOT_STEPS, ROW_FIELDS, ROW_FLAG, ROW_NUMBER_HIGH, ROW_NUMBER_LOW,
-    ROW_WORDS, RUNOFF, SODIUM, SOIL_WATER, SQUARE_UNIT, SULPHATE, THOUSANDTHS, TOTAL_NITROGEN,
-    WET_ONLY, WORD_BYTES,
+    ROW_WORDS, RUNOFF, SODIUM, SOIL_WATER, SQUARE_UNIT, STEMFLOW, SULPHATE, THOUSANDTHS,
+    TOTAL_NITROGEN, WET_ONLY, WORD_BYTES,
 };
 #[allow(unused_imports)]
 pub use reference::sample_number::{of_parts, parts_of};
@@ -53,6 +53,9 @@ pub const MOST_BELOW: u32 = MOST_AMOUNT / 2;
 /// Half the least limit is 2^−11 mg/L, 4.88 tenths of a µg/L: no reading below
 /// its limit has an amount of 4 or less.
 pub const LEAST_BELOW: u32 = 5;
+/// "Every fraction from 0 to its limit's amount": that of the least limit is 9.77
+/// tenths of a µg/L before rounding. Of the greatest it is `MOST_AMOUNT`.
+pub const LEAST_LIMIT: u32 = 10;
 /// "At a few µg/L": what is drawn as a trace is at most 30.0 µg/L.
 pub const MOST_TRACE: u32 = 300;
 /// "The DOC line at 5 mg/L is 50,000."
@@ -99,6 +102,7 @@ pub const MARGIN: usize = RECORD_WORDS + ROW_WORDS + 1;
 #[cfg(test)]
 mod tests {
     use super::*;
+    use reference::ranges::Range;
     use reference::readings::Reading;
     use reference::{numbers, refusals};
 
@@ -134,6 +138,11 @@ mod tests {
             let below = Reading::below(limit).map(Reading::amount);
             assert_eq!(below, Ok(Some(amount)));
         }
+        for (limit, amount) in [(LEAST_LIMIT_BITS, LEAST_LIMIT), (MOST_BITS, MOST_AMOUNT)] {
+            let below = Reading::below(limit).map(Reading::range);
+            assert_eq!(below, Ok(Some(Range::up_to(amount))));
+        }
+        assert_eq!(LEAST_LIMIT, numbers::LEAST_LIMIT);
     }
 
     #[test]

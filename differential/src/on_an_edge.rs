@@ -6,15 +6,20 @@
 //! that give a wanted sum are found by remainders here, where `Edge` of the
 //! other implementation searches step by step.
 
-use crate::ions::{inverse, Ions};
+use crate::ions::{drawn_below, inverse, Ions};
 use crate::numbers::{
-    CHLORIDE, CONDUCTIVITY_TENTH, IONS, LEAST_PH, MOST_AMOUNT, MOST_PH, POTASSIUM, SQUARE_UNIT,
+    AMMONIUM, CALCIUM, CHLORIDE, CONDUCTIVITY_TENTH, IONS, LEAST_PH, MAGNESIUM, MOST_AMOUNT,
+    MOST_PH, NITRATE, POTASSIUM, SODIUM, SQUARE_UNIT, SULPHATE,
 };
 use crate::on_the_limit::tenths_from;
 use reference::activity::Bracket;
 use reference::cases::bottle::Bottle;
-use reference::cases::conducting::{bracket_of, conducted, edges, Edge, CONDUCTED_BY_ALKALINITY};
+use reference::cases::conducting::{
+    bracket_between, conducted, edges, Edge, CONDUCTED_BY_ALKALINITY,
+};
 use reference::cases::generator::Generator;
+use reference::cases::ranges::Below;
+use reference::cases::solver::Fixed;
 use reference::hydrogen::Ph;
 use reference::ions::HYDROGEN_CONDUCTANCE;
 
@@ -37,21 +42,40 @@ pub fn bottle_on_an_edge(generator: &mut Generator) -> Option<Bottle> {
     let tenths = tenths_from(generator, least as u32 + 10);
     let edge = generator.pick(&edges(tenths));
     let steps = i128::from(generator.below(2 * STEPS)) + 1 - i128::from(STEPS);
-    let ions = ions_on(generator, edge, ph, steps)?;
-    Some(ions.bottle(ph).conductivity(tenths))
+    let may_be_below = generator.pick(&MAY_BE_BELOW);
+    let below = drawn_below(generator, &may_be_below, 20 * tenths);
+    let ions = ions_on(generator, edge, ph, steps, &below)?;
+    let bottle = ions.bottle_with(generator, ph, &below);
+    Some(bottle.conductivity(tenths))
 }
 
-/// Ions so many steps beyond the last plain sum before an edge. Their own
-/// bracket must be the one that the sum was worked out with: the last one found
-/// is tried next.
-fn ions_on(generator: &mut Generator, edge: Edge, ph: Ph, steps: i128) -> Option<Ions> {
+/// The ions that may be below their limits together: the search needs potassium
+/// and chloride, and ammonium or magnesium, as without these every sum is even.
+const MAY_BE_BELOW: [[usize; 5]; 2] = [
+    [AMMONIUM, CALCIUM, SODIUM, SULPHATE, NITRATE],
+    [MAGNESIUM, CALCIUM, SODIUM, SULPHATE, NITRATE],
+];
+
+/// Ions so many steps beyond the last plain sum before an edge, those below their
+/// limits at 0 where the bracket's least end is on it and at their limits where
+/// its greatest is. Their own bracket must be the one that the sum was worked out
+/// with: the last one found is tried next.
+fn ions_on(
+    generator: &mut Generator,
+    edge: Edge,
+    ph: Ph,
+    steps: i128,
+    below: &Below,
+) -> Option<Ions> {
+    let fixed = below.at(|_| edge.bracket);
     let mut tried = Bracket {
         least: SQUARE_UNIT,
         greatest: SQUARE_UNIT,
     };
     (0..DRAWS).find_map(|_| {
-        let ions = ions_conducting(generator, edge.conducted(tried, ph, steps))?;
-        let found = bracket_of(&ions.amounts, ions.alkalinity, ph);
+        let sum = edge.conducted(tried, ph, steps);
+        let ions = ions_conducting(generator, sum, &fixed)?;
+        let found = bracket_between(&below.ends(&ions.amounts), ions.alkalinity, ph);
         let is_right = found == tried;
         tried = found;
         is_right.then_some(ions)
@@ -72,7 +96,7 @@ const INVERSE: i128 = inverse(A, B);
 /// 134,295 tenths of a µg/L, and up to 200 mg/L there may be 14 more, each B
 /// further: any of them is drawn, so that potassium need not make up all the
 /// rest. In strong water the two can't make up much of it.
-fn ions_conducting(generator: &mut Generator, sum: i128) -> Option<Ions> {
+fn ions_conducting(generator: &mut Generator, sum: i128, fixed: &Fixed) -> Option<Ions> {
     let mut amounts = [0; IONS];
     let part = sum / generator.pick(&[4, 12]);
     let mut share = |conducted: i128| {
@@ -80,7 +104,7 @@ fn ions_conducting(generator: &mut Generator, sum: i128) -> Option<Ions> {
         i128::from(generator.below(most.clamp(0, i128::from(MOST_AMOUNT)) as u32 + 1))
     };
     for (ion, amount) in amounts.iter_mut().enumerate() {
-        *amount = share(conducted(ion));
+        *amount = fixed[ion].map_or_else(|| share(conducted(ion)), i128::from);
     }
     let alkalinity = share(CONDUCTED_BY_ALKALINITY);
     (amounts[POTASSIUM], amounts[CHLORIDE]) = (0, 0);
@@ -146,7 +170,8 @@ mod tests {
         for tenths in [100, 200, 201, 3_000] {
             for edge in edges(tenths) {
                 let found = [0, 1].map(|steps| {
-                    let ions = ions_on(&mut generator, edge, ph, steps).expect("ions");
+                    let none = Below::default();
+                    let ions = ions_on(&mut generator, edge, ph, steps, &none).expect("ions");
                     let bottle = ions.bottle(ph).conductivity(tenths);
                     conductivity(&Record::read(bottle.words()).expect("a record"))
                 });

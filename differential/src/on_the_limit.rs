@@ -8,28 +8,51 @@
 //! that give a wanted N are found by remainders here, where `Bound` itself
 //! searches step by step.
 
-use crate::ions::{inverse, Ions};
+use crate::floats::any_limit_with;
+use crate::ions::{drawn_below, inverse, Ions};
 use crate::numbers::{
-    CALCIUM, CHLORIDE, IONS, LEAST_PH, MOST_AMOUNT, MOST_CONDUCTIVITY, MOST_PH, NITRATE, SULPHATE,
+    AMMONIUM, CALCIUM, CHLORIDE, IONS, LEAST_LIMIT, LEAST_PH, MAGNESIUM, MOST_AMOUNT,
+    MOST_CONDUCTIVITY, MOST_PH, NITRATE, POTASSIUM, SODIUM, SULPHATE,
 };
 use crate::random::Draw;
 use reference::cases::bottle::Bottle;
 use reference::cases::generator::Generator;
-use reference::cases::solver::{balance_weights, Bound, ENDS, TENTH_CHARGES};
+use reference::cases::ranges::balance::{Corner, CORNERS};
+use reference::cases::solver::{balance_weights, Bound, Fixed, ENDS, TENTH_CHARGES};
 use reference::hydrogen::Ph;
 use reference::ions::{ANIONS, CATIONS, TABLE};
 
 /// How often the ions are drawn again before a search gives up.
 const DRAWS: usize = 4_000;
 
-/// A bottle with an end of the span on h, on h + 1, between them or beside.
+/// The ions that may be below their limits: the search needs calcium and chloride.
+const MAY_BE_BELOW: [usize; 6] = [AMMONIUM, MAGNESIUM, SODIUM, POTASSIUM, SULPHATE, NITRATE];
+
+/// A bottle with an end of the span on h, on h + 1, between them or beside: where
+/// ions are below their limits, of one of the two corners of their ranges that
+/// decide.
 pub fn bottle_on_a_limit(generator: &mut Generator) -> Option<Bottle> {
     let (tenths, end) = (tenths_from(generator, 1), generator.pick(&ENDS));
     let bound = Bound { tenths, end };
     let ph = drawn_ph(generator, bound)?;
     let n = drawn_n(generator, bound, i128::from(ph.floor()));
-    let ions = balancing(generator, bound, n)?;
-    Some(ions.bottle(ph).conductivity(tenths))
+    let corner = generator.pick(&CORNERS);
+    // From traces to 30 mg/L.
+    let most = generator.pick(&[100, 1_000, 30_000, 300_000]);
+    let below = drawn_below(generator, &MAY_BE_BELOW, most / 10);
+    let fixed = below.at(|ion| corner.end_of(ion));
+    let ions = balancing(generator, bound, n, most, &fixed)?;
+    let bottle = ions.bottle_with(generator, ph, &below);
+    let bottle = bottle.conductivity(tenths);
+    // Where anions are at their greatest, chloride may end its range there, too.
+    let chloride = ions.amounts[CHLORIDE];
+    let is_limit = corner == Corner::AsksForMost && chloride >= LEAST_LIMIT;
+    Some(
+        match is_limit && below.count() > 0 && generator.once_in(3) {
+            true => bottle.below(CHLORIDE, any_limit_with(generator, chloride)),
+            false => bottle,
+        },
+    )
 }
 
 /// An N whose end is on h, on h + 1 or between them, or the next one before or
@@ -85,14 +108,19 @@ fn charges(amounts: &[i128; IONS], ions: std::ops::Range<usize>) -> i128 {
     ions.map(|ion| amounts[ion] * TABLE[ion].factor).sum()
 }
 
-fn balancing(generator: &mut Generator, bound: Bound, n: i128) -> Option<Ions> {
+fn balancing(
+    generator: &mut Generator,
+    bound: Bound,
+    n: i128,
+    most: u32,
+    fixed: &Fixed,
+) -> Option<Ions> {
     let (weight, divisor) = balance_weights(bound.tenths, bound.end);
-    // From traces to 30 mg/L.
-    let most = generator.pick(&[100, 1_000, 30_000, 300_000]);
     (0..DRAWS).find_map(|_| {
         let mut amounts = [0; IONS];
-        for amount in &mut amounts[CATIONS] {
-            *amount = i128::from(generator.below(most));
+        for ion in CATIONS {
+            let drawn = fixed[ion].unwrap_or_else(|| generator.below(most));
+            amounts[ion] = i128::from(drawn);
         }
         // Calcium's factor shares none with any weight: some of the next few
         // amounts leaves no remainder.
@@ -100,7 +128,7 @@ fn balancing(generator: &mut Generator, bound: Bound, n: i128) -> Option<Ions> {
         while weighed(&amounts) % weight != 0 {
             amounts[CALCIUM] += 1;
         }
-        anions_of(generator, amounts, weighed(&amounts) / weight)
+        anions_of(generator, amounts, weighed(&amounts) / weight, fixed)
     })
 }
 
@@ -108,11 +136,16 @@ fn balancing(generator: &mut Generator, bound: Bound, n: i128) -> Option<Ions> {
 /// of a µeq/L to alkalinity. Such a tenth is 10^8 u, 10^5 times the unit of the
 /// other charges, and chloride's factor shares none with it: of any 10^5
 /// amounts in a row one leaves no remainder, so chloride is below 10 mg/L.
-fn anions_of(generator: &mut Generator, mut amounts: [i128; IONS], anions: i128) -> Option<Ions> {
+fn anions_of(
+    generator: &mut Generator,
+    mut amounts: [i128; IONS],
+    anions: i128,
+    fixed: &Fixed,
+) -> Option<Ions> {
     for ion in [SULPHATE, NITRATE] {
-        let most = anions / 3 / TABLE[ion].factor;
-        amounts[ion] =
-            i128::from(generator.below(most.clamp(0, i128::from(MOST_AMOUNT)) as u32 + 1));
+        let most = (anions / 3 / TABLE[ion].factor).clamp(0, i128::from(MOST_AMOUNT));
+        let drawn = fixed[ion].unwrap_or_else(|| generator.below(most as u32 + 1));
+        amounts[ion] = i128::from(drawn);
     }
     const INVERSE: i128 = inverse(TABLE[CHLORIDE].factor, TENTH_CHARGES);
     let rest = anions - charges(&amounts, ANIONS);
@@ -127,13 +160,19 @@ mod tests {
     use super::*;
     use crate::answers::judge;
     use crate::numbers::BALANCE_CHECK;
-    use reference::checks::{Fraction, Inequality, IonBalance, Span};
+    use reference::checks::{Fraction, IonBalance, Spans};
     use reference::record::Record;
 
-    fn record_and_span(bottle: &Bottle) -> (Record, Span) {
+    fn record_and_spans(bottle: &Bottle) -> (Record, Spans) {
         let record = Record::read(bottle.words()).expect("a record");
-        let span = IonBalance::of(&record).expect("all ions").span();
-        (record, span)
+        let spans = IonBalance::of(&record).expect("all ions").spans();
+        (record, spans)
+    }
+
+    /// The ends with every choice of the amounts, then those with some choice.
+    fn ends_of(spans: Spans) -> [Fraction; 4] {
+        let (every, some) = (spans.with_every, spans.with_some);
+        [every.least, every.greatest, some.least, some.greatest]
     }
 
     /// Whether the fraction is at most two of the longest steps, 10^3 / 9 u, from
@@ -143,32 +182,36 @@ mod tests {
     }
 
     #[test]
-    fn an_end_of_the_span_is_near() {
+    fn an_end_of_a_span_is_near() {
         let mut generator = Generator::new(4);
         let mut found = 0;
         for bottle in (0..300).filter_map(|_| bottle_on_a_limit(&mut generator)) {
-            let (record, span) = record_and_span(&bottle);
+            let (record, spans) = record_and_spans(&bottle);
             let h = i128::from(record.ph.floor());
-            assert!(is_near(span.least, h) || is_near(span.greatest, h));
+            assert!(ends_of(spans).into_iter().any(|end| is_near(end, h)));
             found += 1;
         }
         assert!(found > 150, "{found} found");
     }
 
     /// Undecided verdicts, and ends that are exactly on whole hydrogen, are both
-    /// common.
+    /// common: each of the four, with below readings and without.
     #[test]
     fn the_narrowest_places_are_common() {
         let mut generator = Generator::new(5);
-        let (mut undecided, mut on) = (0, 0);
-        for bottle in (0..2_000).filter_map(|_| bottle_on_a_limit(&mut generator)) {
+        let (mut undecided, mut on) = ([0; 2], [[0; 4]; 2]);
+        for bottle in (0..4_000).filter_map(|_| bottle_on_a_limit(&mut generator)) {
             let verdicts = judge(bottle.words()).expect("a record");
-            undecided += u32::from(verdicts[BALANCE_CHECK] == 3);
-            let (record, span) = record_and_span(&bottle);
+            let (record, spans) = record_and_spans(&bottle);
+            let ranges = record.ion_ranges().expect("all ions");
+            let has_below = usize::from(ranges.least != ranges.greatest);
+            undecided[has_below] += u32::from(verdicts[BALANCE_CHECK] == 3);
             let h = i128::from(record.ph.floor());
-            let is_on = |end: Fraction| end.numerator == h * end.denominator;
-            on += u32::from(is_on(span.least) || is_on(span.greatest));
+            for (times, end) in on[has_below].iter_mut().zip(ends_of(spans)) {
+                *times += u32::from(end.numerator == h * end.denominator);
+            }
         }
-        assert!(undecided > 50 && on > 50, "{undecided} and {on}");
+        assert!(undecided.iter().all(|&times| times > 50), "{undecided:?}");
+        assert!(on.iter().flatten().all(|&times| times > 50), "{on:?}");
     }
 }

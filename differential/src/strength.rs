@@ -6,14 +6,15 @@
 //! 10^−6: where hydrogen is whole a square can be met, elsewhere no strength
 //! with h or h + 1 is one, as no such floor ends in 000 or 999.
 
-use crate::ions::{inverse, Ions};
+use crate::ions::{drawn_below, inverse, Ions};
 use crate::numbers::{
-    AMOUNT_CHARGE, CHLORIDE, IONS, LEAST_PH, MOST_ALKALINITY, MOST_AMOUNT, MOST_PH, SOIL_WATER,
+    AMMONIUM, AMOUNT_CHARGE, CALCIUM, CHLORIDE, IONS, LEAST_PH, MAGNESIUM, MOST_ALKALINITY,
+    MOST_AMOUNT, MOST_PH, NITRATE, POTASSIUM, SODIUM, SOIL_WATER, SULPHATE,
 };
 use crate::random::Draw;
 use reference::cases::bottle::Bottle;
 use reference::cases::generator::Generator;
-use reference::cases::solver::TENTH_CHARGES;
+use reference::cases::solver::{Fixed, ENDS, TENTH_CHARGES};
 use reference::cases::strength::{square_of, sums_about};
 use reference::hydrogen::Ph;
 use reference::ions::{ALKALINITY_VALENCE, TABLE};
@@ -35,9 +36,21 @@ pub fn bottle_of_strength(generator: &mut Generator) -> Option<Bottle> {
     let ph = Ph::new(p).ok()?;
     let sum = drawn_sum(generator);
     let rest = (sum - i128::from(ph.floor())).div_euclid(AMOUNT_CHARGE);
-    let ions = (0..DRAWS).find_map(|_| ions_weighing(generator, rest))?;
-    Some(ions.bottle(ph).kind(SOIL_WATER))
+    // Of below readings the least strength has all at 0, the greatest all at
+    // their limits: one of the two is what was drawn.
+    let most = (rest / 40_000).clamp(0, i128::from(MOST_AMOUNT)) as u32;
+    let below = drawn_below(generator, &MAY_BE_BELOW, most);
+    let end = generator.pick(&ENDS);
+    let fixed = below.at(|_| end);
+    let ions = (0..DRAWS).find_map(|_| ions_weighing(generator, rest, &fixed))?;
+    let bottle = ions.bottle_with(generator, ph, &below);
+    Some(bottle.kind(SOIL_WATER))
 }
+
+/// The ions that may be below their limits: the search needs chloride.
+const MAY_BE_BELOW: [usize; 7] = [
+    AMMONIUM, CALCIUM, MAGNESIUM, SODIUM, POTASSIUM, SULPHATE, NITRATE,
+];
 
 /// Twice a strength in u: mostly next to a thousandth of e, between its two
 /// squares or on both sides of one of them; else on any square or beside it.
@@ -67,10 +80,11 @@ const TENTH: i128 = ALKALINITY_VALENCE * TENTH_CHARGES;
 
 /// Draws all but chloride and alkalinity; chloride is what leaves a whole number
 /// of tenths of a µeq/L to alkalinity.
-fn ions_weighing(generator: &mut Generator, sum: i128) -> Option<Ions> {
+fn ions_weighing(generator: &mut Generator, sum: i128, fixed: &Fixed) -> Option<Ions> {
     const FACTOR: i128 = TABLE[CHLORIDE].valence * TABLE[CHLORIDE].factor;
     const INVERSE: i128 = inverse(FACTOR, TENTH);
-    let mut amounts = drawn_for(generator, sum);
+    let drawn = drawn_for(generator, sum);
+    let mut amounts: [u32; IONS] = std::array::from_fn(|ion| fixed[ion].unwrap_or(drawn[ion]));
     amounts[CHLORIDE] = 0;
     let drawn: i128 = (0..IONS).map(|ion| weight(ion, amounts[ion])).sum();
     let rest = sum - drawn;
@@ -105,22 +119,43 @@ mod tests {
     use reference::record::Record;
 
     /// On a square; on neither side of a thousandth alone, with the lower e or
-    /// the upper e just past it or just not; strong water. All are common.
+    /// the upper e just past it or just not; strong water. All are common, where
+    /// all below readings are at 0 and where all are at their limits.
     #[test]
     fn squares_thousandths_and_strong_water_are_common() {
         let mut generator = Generator::new(7);
-        let mut times = [0; 4];
+        let mut times = [[0; 4]; 2];
+        for bottle in (0..4_000).filter_map(|_| bottle_of_strength(&mut generator)) {
+            let record = Record::read(bottle.words()).expect("a record");
+            let check = Conductivity::of(&record).expect("all ions");
+            let ends = [check.weighed.least, check.weighed.greatest];
+            for (times, weighed) in times.iter_mut().zip(ends) {
+                let sum = weighed + i128::from(record.ph.floor());
+                let (lower, upper) = (lower_root(sum), upper_root(sum));
+                let (low_e, high_e) = (thousandths_up_to(lower), thousandths_from(upper));
+                times[0] += u32::from(lower == upper);
+                times[1] += u32::from(high_e == low_e + 2);
+                times[2] += u32::from(thousandths_from(upper + 1) > high_e);
+                times[3] += u32::from(low_e > 100);
+            }
+        }
+        assert!(
+            times.iter().flatten().all(|&times| times > 100),
+            "{times:?}"
+        );
+    }
+
+    /// Below readings that span several thousandths of e.
+    #[test]
+    fn wide_brackets_are_common() {
+        let mut generator = Generator::new(8);
+        let mut wide = 0;
         for bottle in (0..2_000).filter_map(|_| bottle_of_strength(&mut generator)) {
             let record = Record::read(bottle.words()).expect("a record");
             let check = Conductivity::of(&record).expect("all ions");
-            let sum = check.weighed + i128::from(record.ph.floor());
-            let (lower, upper) = (lower_root(sum), upper_root(sum));
-            let (low_e, high_e) = (thousandths_up_to(lower), thousandths_from(upper));
-            times[0] += u32::from(lower == upper);
-            times[1] += u32::from(high_e == low_e + 2);
-            times[2] += u32::from(thousandths_from(upper + 1) > high_e);
-            times[3] += u32::from(low_e > 100);
+            let low = thousandths_up_to(lower_root(check.weighed.least));
+            wide += u32::from(thousandths_from(upper_root(check.weighed.greatest)) > low + 3);
         }
-        assert!(times.iter().all(|&times| times > 100), "{times:?}");
+        assert!(wide > 100, "{wide}");
     }
 }

@@ -136,6 +136,7 @@ mod tests {
     use super::*;
     use crate::answers::judge;
     use crate::numbers::{CONDUCTIVITY_CHECK, NUMBER_WORDS, RANGES};
+    use reference::cases::floats::DOUBLE;
     use reference::checks::plain_conductivity;
     use reference::readings::Reading;
     use reference::record::Record;
@@ -194,6 +195,36 @@ mod tests {
                 let printed = 10 * scaled(field, 3);
                 assert_eq!(reading.map(Reading::amount), Ok(Some(printed)), "{line}");
             }
+        }
+    }
+
+    /// No reading of the sheet is below a limit: each that is there stands for one
+    /// amount, so no judgement hangs on ranges.
+    #[test]
+    fn no_reading_of_the_sheet_is_a_range() {
+        for row in rows() {
+            let record = Record::read(row.record.words()).expect("a record");
+            let ranges = (0..READINGS).filter_map(|place| record.range(place));
+            assert!(ranges
+                .into_iter()
+                .all(|range| range.least == range.greatest));
+        }
+    }
+
+    /// Were each reading below twice its value, half the limit would be what it
+    /// was, and nothing but 0 and undecided would be left of the 96 judgements.
+    #[test]
+    fn by_ranges_the_sheet_would_be_undecided() {
+        for row in rows() {
+            let below = (0..READINGS).fold(row.record.clone(), |bottle, place| {
+                let (mark, bits) = bottle.mark_and_bits(place);
+                match mark {
+                    1 => bottle.below(place, bits + DOUBLE),
+                    _ => bottle,
+                }
+            });
+            let verdicts = judge(below.words()).expect("a record");
+            assert_eq!(verdicts, [3, 3, 0, 3], "row {}", row.number);
         }
     }
 

@@ -1,5 +1,5 @@
 //! The water analysis judge a second time, written from documents 01 and 02 (i)
-//! to (v) and the settled readings of their open points alone.
+//! to (vi) and the settled readings of their open points alone.
 //!
 //! The modules follow the sections of document 01. Every algorithm is the most
 //! literal one: whole numbers and exact fractions, nothing tabulated beyond
@@ -17,6 +17,7 @@ pub mod ions;
 pub mod join;
 pub mod listing;
 pub mod numbers;
+pub mod ranges;
 pub mod readings;
 pub mod record;
 pub mod refusals;

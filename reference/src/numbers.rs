@@ -1,7 +1,7 @@
-//! The numbers of documents 01 and 02 (i), (ii) and (v) in one place: where
+//! The numbers of documents 01 and 02 (i), (ii), (v) and (vi) in one place: where
 //! words stand, how many there are and how far values reach; 02 (iii) and (iv)
 //! bring no new ones. What follows from others is worked out from them. A
-//! comment quotes document 01 unless it names 02 (i), 02 (ii) or 02 (v).
+//! comment quotes document 01 unless it names a request of 02.
 
 use std::ops::RangeInclusive;
 
@@ -96,6 +96,10 @@ pub const MOST_AMOUNT: u32 = MOST_MILLIGRAMS * PER_MILLIGRAM;
 /// 2^−11 mg/L, and its amount the nearest whole number.
 pub const LEAST_BELOW: u32 = (PER_MILLIGRAM + (1 << 10)) >> 11;
 pub const MOST_BELOW: u32 = MOST_AMOUNT / 2;
+/// "Every fraction from 0 to its limit's amount" (02 (vi)): that of the least
+/// limit, 2^−10 mg/L, is the nearest whole number. Of the greatest it is
+/// `MOST_AMOUNT`.
+pub const LEAST_LIMIT: u32 = (PER_MILLIGRAM + (1 << 9)) >> 10;
 
 // "Charge and conductance" and "The four checks"
 
@@ -231,6 +235,8 @@ mod tests {
         assert_eq!((CARBON_LINE, MOST_AMOUNT), (50_000, 2_000_000));
         // Half of the least limit is 4.8828125 tenths of a µg/L.
         assert_eq!((LEAST_BELOW, MOST_BELOW), (5, 1_000_000));
+        // The least limit itself is 9.765625 of them.
+        assert_eq!(LEAST_LIMIT, 10);
         assert_eq!(f32::from_bits(MOST_BITS), MOST_MILLIGRAMS as f32);
         assert_eq!(f32::from_bits(LEAST_LIMIT_BITS), 2f32.powi(-10));
         assert_eq!((ROW_WORDS, ROW_FIELDS), (7, 6));

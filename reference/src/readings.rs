@@ -2,6 +2,7 @@
 //! quantification limit.
 
 use crate::numbers::{MOST_MILLIGRAMS, PER_MILLIGRAM};
+use crate::ranges::Range;
 use crate::refusals::{require, Refusal, READING};
 use std::cmp::Ordering;
 
@@ -152,12 +153,24 @@ impl Reading {
     }
 
     /// The amount in whole tenths of a µg/L, or nothing where the reading is
-    /// missing. Half a limit is rounded once, after halving.
+    /// missing. Half a limit is rounded once, after halving: "The DOC line of
+    /// runoff and docket agreement still use the half" (document 02 (vi)).
     pub fn amount(self) -> Option<u32> {
         match self {
             Reading::Missing => None,
             Reading::Measured(float) => Some(float.value.amount()),
             Reading::Below(limit) => Some(limit.value.half().amount()),
+        }
+    }
+
+    /// All the amounts that the four checks take it for, or nothing where the
+    /// reading is missing. The limit is rounded as a measured value is; twice
+    /// the half's amount may be another.
+    pub fn range(self) -> Option<Range> {
+        match self {
+            Reading::Missing => None,
+            Reading::Measured(float) => Some(Range::of_measured(float.value.amount())),
+            Reading::Below(limit) => Some(Range::up_to(limit.value.amount())),
         }
     }
 
@@ -223,6 +236,43 @@ mod tests {
         let limit = 0.031_26f32.to_bits();
         assert_eq!(measured_amount(limit), Ok(Some(313)));
         assert_eq!(below_amount(limit), Ok(Some(156)));
+    }
+
+    fn below_range(bits: u32) -> Result<Option<Range>, Refusal> {
+        Reading::below(bits).map(Reading::range)
+    }
+
+    #[test]
+    fn a_range_reaches_from_0_to_the_limit_s_own_amount() {
+        for bits in [LEAST_LIMIT_BITS, 0x3D00_0000, 0.25f32.to_bits(), MOST_BITS] {
+            let limit = measured_amount(bits).map(|amount| amount.map(Range::up_to));
+            assert_eq!(below_range(bits), limit);
+        }
+        // 2^−10 mg/L is 9.765625 tenths of a µg/L, and twice its half's amount 10.
+        assert_eq!(below_range(LEAST_LIMIT_BITS), Ok(Some(Range::up_to(10))));
+        assert_eq!(below_range(MOST_BITS), Ok(Some(Range::up_to(MOST_AMOUNT))));
+    }
+
+    /// (limit in tenths of a µg/L, its amount, its half's amount): the half of an
+    /// odd amount goes up or down, so twice the half is one more or one less.
+    #[test]
+    fn a_limit_s_amount_is_not_twice_its_half_s() {
+        for (tenths, whole, half) in [(10.7, 11, 5), (11.2, 11, 6), (24.8, 25, 12), (25.2, 25, 13)]
+        {
+            let bits = (tenths / 10_000f32).to_bits();
+            assert_eq!(below_range(bits), Ok(Some(Range::up_to(whole))));
+            assert_eq!(below_amount(bits), Ok(Some(half)));
+        }
+    }
+
+    #[test]
+    fn a_measured_reading_stands_for_its_amount_alone() {
+        for bits in [0, 0x3D00_0000, MOST_BITS] {
+            let range = Reading::measured(bits).map(Reading::range);
+            let alone = measured_amount(bits).map(|amount| amount.map(Range::of_measured));
+            assert_eq!(range, alone);
+        }
+        assert_eq!(Reading::Missing.range(), None);
     }
 
     #[test]

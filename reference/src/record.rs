@@ -6,6 +6,7 @@ use crate::numbers::{
     MOST_ALKALINITY, MOST_CONDUCTIVITY, MOST_NUMBER, NUMBER_HIGH, NUMBER_LOW, PH, READINGS,
     RECORD_WORDS,
 };
+use crate::ranges::{Ends, Range};
 use crate::readings::Reading;
 use crate::refusals::{self, require, Refusal};
 use crate::sample_number::of_parts;
@@ -53,8 +54,8 @@ impl Record {
         })
     }
 
-    /// The amount of a reading in tenths of a µg/L, or nothing where it is
-    /// missing.
+    /// The amount of a reading in tenths of a µg/L, half its limit's where it is
+    /// below, or nothing where it is missing.
     pub fn amount(&self, place: usize) -> Option<u32> {
         self.readings[place].amount()
     }
@@ -66,6 +67,26 @@ impl Record {
             *amount = self.amount(ion)?;
         }
         Some(amounts)
+    }
+
+    /// The amounts that a reading stands for, or nothing where it is missing.
+    pub fn range(&self, place: usize) -> Option<Range> {
+        self.readings[place].range()
+    }
+
+    /// The eight ions with the least amount of each and with the greatest of
+    /// each, or nothing where any of them is missing.
+    pub fn ion_ranges(&self) -> Option<Ends<[u32; IONS]>> {
+        let mut ends = Ends {
+            least: [0; IONS],
+            greatest: [0; IONS],
+        };
+        for ion in 0..IONS {
+            let range = self.range(ion)?;
+            ends.least[ion] = range.least;
+            ends.greatest[ion] = range.greatest;
+        }
+        Some(ends)
     }
 }
 

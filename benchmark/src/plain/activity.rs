@@ -16,12 +16,16 @@ fn exponent(root: u64) -> (u64, u64) {
     (numerator, 10_000_000_000 * sum)
 }
 
-/// The least and the greatest 10^9 y² at a strength from `least` to `greatest`,
-/// which is the same or one more: no square lies between them, so the upper root
-/// is the lower one or the next.
+/// The greatest root of so many millionths that is not above the strength's.
+fn root(strength: u64) -> u64 {
+    (strength / SQUARE).isqrt()
+}
+
+/// The least and the greatest 10^9 y² at a strength from `least` to `greatest`.
 pub fn bracket(least: u64, greatest: u64, powers: &[u64; POWERS]) -> (u64, u64) {
-    let lower = (least / SQUARE).isqrt();
-    let upper = lower + u64::from(SQUARE * lower * lower < greatest);
+    let lower = root(least);
+    let below = root(greatest);
+    let upper = below + u64::from(SQUARE * below * below < greatest);
     let (small, small_whole) = exponent(lower);
     let (great, great_whole) = exponent(upper);
     (

@@ -27,7 +27,7 @@ fn agree(a: &Record, b: &Record) -> bool {
         && tenth(a.conductivity, b.conductivity)
         && tenth(a.alkalinity, b.alkalinity)
         && (0..IONS).all(|i| match (a.amounts[i], b.amounts[i]) {
-            (Some(x), Some(y)) => tenth(x, y),
+            (Some(x), Some(y)) => tenth(x.into(), y.into()),
             (None, None) => true,
             _ => false,
         })

@@ -1,4 +1,7 @@
 //! A record: its fields, its own tests, and its readings as amounts.
+//!
+//! A reading below its limit is one amount, that of half the limit, where records
+//! are compared and where carbon is asked for; the checks take it as a range.
 
 use super::Refusal;
 use crate::numbers::{
@@ -15,17 +18,30 @@ pub struct Record {
     pub conductivity: u64,
     pub alkalinity: u64,
     /// Tenths of a µg/L, or nothing where the reading is missing.
-    pub amounts: [Option<u64>; READINGS],
+    pub amounts: [Option<u32>; READINGS],
+    /// The least and the greatest amount that each reading stands for, 0 where it
+    /// is missing.
+    pub least: [u32; READINGS],
+    pub greatest: [u32; READINGS],
 }
 
-fn amount(mark: u32, bits: u32) -> Result<Option<u64>, Refusal> {
-    const WHOLE: f64 = PER_MILLIGRAM as f64;
-    const HALF: f64 = WHOLE / 2.0;
+/// The amount of so many mg/L, to the nearest.
+fn rounded(milligrams: f64) -> u32 {
+    (milligrams * f64::from(PER_MILLIGRAM) + 0.5) as u32
+}
+
+/// The amount of a reading, and the least and the greatest that it stands for.
+fn amount(mark: u32, bits: u32) -> Result<(Option<u32>, u32, u32), Refusal> {
     let value = f64::from(f32::from_bits(bits));
     match mark {
-        0 if bits == 0 => Ok(None),
-        1 if bits <= MOST_BITS => Ok(Some((value * WHOLE + 0.5) as u64)),
-        2 if (LEAST_LIMIT..=MOST_BITS).contains(&bits) => Ok(Some((value * HALF + 0.5) as u64)),
+        0 if bits == 0 => Ok((None, 0, 0)),
+        1 if bits <= MOST_BITS => {
+            let amount = rounded(value);
+            Ok((Some(amount), amount, amount))
+        }
+        2 if (LEAST_LIMIT..=MOST_BITS).contains(&bits) => {
+            Ok((Some(rounded(value / 2.0)), 0, rounded(value)))
+        }
         _ => Err(7),
     }
 }
@@ -50,9 +66,10 @@ impl Record {
         let conductivity = u64::from(within(words[CONDUCTIVITY], 1, MOST_CONDUCTIVITY, 5)?);
         let alkalinity = u64::from(within(words[ALKALINITY], 0, MOST_ALKALINITY, 6)?);
         let mut amounts = [None; READINGS];
+        let (mut least, mut greatest) = ([0; READINGS], [0; READINGS]);
         let readings = words[FIRST_READING..READINGS_END].chunks_exact(READING_WORDS);
-        for (place, pair) in amounts.iter_mut().zip(readings) {
-            *place = amount(pair[MARK], pair[BITS])?;
+        for (i, pair) in readings.enumerate() {
+            (amounts[i], least[i], greatest[i]) = amount(pair[MARK], pair[BITS])?;
         }
         Ok(Record {
             number,
@@ -61,14 +78,12 @@ impl Record {
             conductivity,
             alkalinity,
             amounts,
+            least,
+            greatest,
         })
     }
 
-    pub fn ions(&self) -> Option<[u64; IONS]> {
-        let mut ions = [0; IONS];
-        for (ion, amount) in ions.iter_mut().zip(self.amounts) {
-            *ion = amount?;
-        }
-        Some(ions)
+    pub fn has_all_ions(&self) -> bool {
+        self.amounts[..IONS].iter().all(Option::is_some)
     }
 }

@@ -20,7 +20,8 @@ pub fn lower(strength: u64) -> u64
 }
 
 // The least multiple whose square is at least the strength. `near` is any root: that of the least strength is mostly
-// the one before it, since hydrogen leaves the two strengths at most 1 apart. Then no root need be found again.
+// the one before it where no reading is below its limit, since hydrogen leaves the two strengths at most 1 apart. Then no
+// root need be found again.
 pub fn upper(strength: u64, near: u64) -> u64
     requires { ⌜ (strength ≤ strongest) × (near ≤ greatestRoot) ⌝ }
     ensures answer { λ r. ⌜ r ≡ upperRoot strength ⌝ }

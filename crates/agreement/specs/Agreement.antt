@@ -27,7 +27,8 @@ phAgrees p q = leb (apart p q) 10
 unfoldable pub agreesBy : ℕ → ℕ → Bool
 agreesBy x y = leb (10 * apart x y) (max x y)
 
--- 'missing agrees only with missing'; else by amounts
+-- 'missing agrees only with missing'; else by amounts, a below reading's being that of half its limit: document 02 (vi), 'docket agreement
+-- still use the half'
 unfoldable pub readingAgrees : Reading → Reading → Bool
 readingAgrees r q = cond (present r) (cond (present q) (agreesBy (massOf r) (massOf q)) false) (not (present q))
 

@@ -18,7 +18,6 @@ mod AtHydrogenLaws
 mod BalanceLaws
 mod ConductivityLaws
 mod RatioLaws
-mod PointLaws
 mod Applying
 mod MatchLaws
 mod CheckWays

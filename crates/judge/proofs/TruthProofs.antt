@@ -1,5 +1,5 @@
 -- The truth of the four verdicts of every accepted record.
-use mathlib.Core.Path.{_≡_, refl, _∙_}
+use mathlib.Core.Path.{_≡_, refl}
 use mathlib.Core.Bool.{Bool, true, false}
 use mathlib.Core.List.{List}
 use mathlib.Core.Logic.{_↔_, Iff·rfl, Iff·symm, Iff·trans}
@@ -17,22 +17,20 @@ use Rattle.solution.proofs.SolutionLaws.{record-bounded}
 use Rattle.judge.specs.Choices.{Choice, Values, Among}
 use Rattle.judge.specs.AtHydrogen.{Bounds, AtH}
 use Rattle.judge.specs.Verdicts.{Judged, applied}
-use Rattle.judge.specs.Corners.{Check, endsReached, Passes, passesOf}
+use Rattle.judge.specs.Corners.{Check, Passes, passesOf}
 use Rattle.judge.specs.Ranges.{correctionWith, rangesOf}
 use Rattle.judge.specs.IonBalance.{balanceAppliesTo, balanceLimit, balanceCheck}
 use Rattle.judge.specs.Conductivity.{conductivityLimit, conductivityCheck, plainCheck, PlainConductingIn, plainVerdict}
 use Rattle.judge.specs.Ratios.{ratioAppliesTo, ratioKnown, sodiumChlorideCheck, nitrogenAppliesTo, nitrogenKnown, nitrogenCheck}
 use Rattle.judge.specs.Judgements.{verdictsOf}
-use Rattle.judge.specs.Truth.{CheckTruth, HydrogenTruth, Undecided, Truth}
+use Rattle.judge.specs.Truth.{CheckTruth, HydrogenTruth, Truth}
 use Rattle.judge.proofs.Mixing.{Proper}
-use Rattle.judge.proofs.FactorLaws.{counting}
 use Rattle.judge.proofs.Judging.{judged-as, judged-few, says-both}
 use Rattle.judge.proofs.CornerLaws.{Sound, passes-judged, a-choice}
 use Rattle.judge.proofs.BoundLaws.{boundsOf, passes-bounds}
 use Rattle.judge.proofs.AtHydrogenLaws.{Tells, located, passes-tells}
 use Rattle.judge.proofs.CorrectionLaws.{correction-some, correction-ordered}
 use Rattle.judge.proofs.StrengthLaws.{activity-truth}
-use Rattle.judge.proofs.PointLaws.{never-undecided}
 use Rattle.judge.proofs.Applying.{applied-0, applied-4, applied-is}
 use Rattle.judge.proofs.LimitLaws.{balance-limit, conductivity-limit}
 use Rattle.judge.proofs.BalanceLaws.{balance-sound, balance-passes, balance-bounds}
@@ -74,32 +72,19 @@ module _ (s : List ℕ) (valid : Valid s) (applies known : Bool) (k : Check) (o 
         undecided = (λ e. let u = both .0 e in (u .0, u .1, u .2 .0, u .2 .1), λ e. both .1 (e .0, e .1, (e .2, e .3)));
       }
 
-  -- uncorrected, where hydrogen plays no part, or is its floor, it is not 3
-  not-undecided : k .corrected ≡ false → endsReached k (rangesOf s) ≡ true → applied applies known v ≡ 3 → ⊥
-  not-undecided n t e = never-undecided s k n t (own 3 (omega arith) e)
+  module _ (counts : 0 < k .hydrogen) (w : HydrogenAt (phOf s)) {boundsAt : Choice → Bounds} (are : (c : Choice) → boundsOf k c ≡ boundsAt c) where
+    -- 1 and 2 are true of H
+    told : (c : Choice) → Values (rangesOf s) c → Tells (AtH (phOf s) (boundsAt c)) v
+    told c a =
+        rw (are c) at (passes-tells k o counts (rangesOf s) (proper s valid) (phOf s) (w .ordered) c a (located (phOf s) w (isWhole (phOf s)) refl))
 
-  module _ (counts : 0 < k .hydrogen) where
-    -- elsewhere both outcomes occur at a fraction for hydrogen
-    undecided-at : k .corrected ≡ false → (applied applies known v ≡ 3) ↔ Undecided s applies known Holds
-    undecided-at n =
-        let both = check-truth .undecided in (
-          λ e. let u = both .0 e in (u .0, u .1, λ z. not-undecided n (counting (k .hydrogen) (isWhole (phOf s)) counts ∙ z) e, u .2, u .3),
-          λ e. both .1 (e .0, e .1, e .3, e .4),
-        )
-
-    module _ (w : HydrogenAt (phOf s)) {boundsAt : Choice → Bounds} (are : (c : Choice) → boundsOf k c ≡ boundsAt c) where
-      -- 1 and 2 are true of H
-      told : (c : Choice) → Values (rangesOf s) c → Tells (AtH (phOf s) (boundsAt c)) v
-      told c a =
-          rw (are c) at (passes-tells k o counts (rangesOf s) (proper s valid) (phOf s) (w .ordered) c a (located (phOf s) w (isWhole (phOf s)) refl))
-
-      hydrogen-truth : HydrogenTruth s Holds boundsAt (applied applies known v)
-      hydrogen-truth =
-          record {
-            bounds = λ c a. Iff·trans (Iff·symm (same c)) (rw (are c) at (passes-bounds k c (a .divides)));
-            within = λ e c a. told c a .within (own 1 (omega arith) e);
-            outside = λ e c a. told c a .outside (own 2 (omega arith) e);
-          }
+    hydrogen-truth : HydrogenTruth s Holds boundsAt (applied applies known v)
+    hydrogen-truth =
+        record {
+          bounds = λ c a. Iff·trans (Iff·symm (same c)) (rw (are c) at (passes-bounds k c (a .divides)));
+          within = λ e c a. told c a .within (own 1 (omega arith) e);
+          outside = λ e c a. told c a .outside (own 2 (omega arith) e);
+        }
 
 -- the verdict of the plain sum is that of document 01's inequality without y²
 pub plain-judged : (s : List ℕ) → Valid s → ionsKnown s ≡ true → Judged Choice (Among (rangesOf s)) (PlainConductingIn s) (plainVerdict s)
@@ -132,10 +117,4 @@ truth s valid =
           hydrogen-truth s valid true (ionsKnown s) (conductivityCheck M t CM) c-sound (conductivity-passes M t CM c) (omega arith) w (conductivity-bounds M t CM c);
       activity = activity-truth s valid;
       choice = a-choice nitrogenCheck nitrogen-sound (rangesOf s) (proper s valid);
-      alone =
-          record {
-            balance = undecided-at s valid (balanceAppliesTo s) (ionsKnown s) (balanceCheck L t) b-sound (balance-passes L t b) (omega arith) refl;
-            ratio = not-undecided s valid (ratioAppliesTo s) (ratioKnown s) sodiumChlorideCheck ratio-sound ratio-passes refl refl;
-            nitrogen = not-undecided s valid (nitrogenAppliesTo s) (nitrogenKnown s) nitrogenCheck nitrogen-sound nitrogen-passes refl refl;
-          };
     }

@@ -1,4 +1,4 @@
--- Document 01, 'Ion balance', and document 02 (i) for the DOC line.
+-- Document 01, 'Ion balance', and document 02 (i) for the DOC line; over what (vi) leaves open (`Choices`).
 use mathlib.Core.Bool.{Bool, false, cond, _&&_, _||_}
 use mathlib.Core.List.{List}
 use Prim.Native.Nat.{ℕ, _+_, _-_, _*_, _≤_}
@@ -22,7 +22,8 @@ use Rattle.judge.specs.Ranges.{rangesOf}
 abbrev pub carbonLine : ℕ
 carbonLine = 5 * perMilligram
 
--- 'kinds 1 and 2, and kind 5 with DOC present and below' that line
+-- 'kinds 1 and 2, and kind 5 with DOC present and below' that line. Document 02 (vi): 'The DOC line of runoff and docket agreement still use
+-- the half', which is a below reading's amount
 unfoldable pub balanceApplies : ℕ → Bool → ℕ → Bool
 balanceApplies kind carbonPresent carbon = (eqb kind wetOnly || eqb kind bulk) || (eqb kind runoff && (carbonPresent && ltb carbon carbonLine))
 

@@ -1,4 +1,4 @@
--- What a record leaves open: each reading by its range, hydrogen as its floor or strictly between it and the next whole number, and y² by
+-- Document 02 (v) and (vi), what a record leaves open: each reading by its range, hydrogen as its floor or strictly between it and the next whole number, and y² by
 -- its bracket.
 use mathlib.Core.List.{List}
 use Prim.Native.Nat.{ℕ}
@@ -13,7 +13,8 @@ use Rattle.judge.specs.Choices.{Bracket, Ranges}
 abbrev pub correctionIn : SumRanges → Bracket
 correctionIn x = record { least = lowerEnd (x .most .strength); most = upperEnd (x .least .strength); unit = unit }
 
--- of a record: 'I is least with hydrogen at h and greatest at h + 1 (h for both where exact)'
+-- of a record: 'I is least with hydrogen at h and greatest at h + 1 (h for both where exact)', and document 02 (vi): 'The least ionic strength
+-- takes each such reading at 0, the greatest at its limit, giving one bracket for y²'
 unfoldable pub correctionWith : List ℕ → ℕ → Bracket
 correctionWith s floor = correctionIn (sumRangesAt s floor)
 

@@ -1,5 +1,5 @@
--- Demand 3 on verdicts, for every record, as document 02 (v) restates it for conductivity: what each verdict is worth, by every choice of
--- what the record leaves open and at true hydrogen.
+-- Demand 3 on verdicts, for every record, as document 02 (v) and (vi) restate it: what each verdict is worth, by every choice of what the
+-- record leaves open and at true hydrogen.
 use mathlib.Core.Path.{_≡_}
 use mathlib.Core.Bool.{Bool, true, false}
 use mathlib.Core.List.{List}
@@ -8,7 +8,6 @@ use Prim.Native.Nat.{ℕ, _*_, _≤_}
 use Rattle.activity.specs.Strength.{strongest}
 use Rattle.activity.specs.Brackets.{unit}
 use Rattle.activity.specs.Truth.{TrueAtLeast, TrueAtMost}
-use Rattle.hydrogen.specs.Floors.{WholePh}
 use Rattle.record.specs.Record.{phOf, conductivityOf, alkalinityOf}
 use Rattle.solution.specs.Solutions.{ionsKnown, measuredOf}
 use Rattle.judge.specs.Choices.{Choice, Values, Among}
@@ -20,21 +19,21 @@ use Rattle.judge.specs.Conductivity.{conductivityLimit, Conducting, stre
 use Rattle.judge.specs.Ratios.{ratioAppliesTo, ratioKnown, SodiumChloride, nitrogenAppliesTo, nitrogenKnown, Nitrogen}
 use Rattle.judge.specs.Judgements.{Four}
 
--- P occurs among the choices that the record leaves: at a fraction strictly between h and h + 1 where p is no multiple of 100, and with a y²
--- of its bracket
+-- P occurs among the choices that the record leaves: with amounts in their ranges, at a fraction strictly between h and h + 1 where p is no
+-- multiple of 100, and with a y² of its bracket
 abbrev pub Occurs : List ℕ → (Choice → Type 0) → Type 0
 Occurs s P = (c : Choice) × (Among (rangesOf s) c × P c)
 
 -- of each check: whether it applies to the record, whether no needed reading is missing, its inequality, and its verdict
 pub record CheckTruth (s : List ℕ) (applies known : Bool) (Holds : Choice → Type 0) (v : ℕ) : Type 0 where
-  -- 'not applicable' and 'missing' exactly where document 01 gives them
+  -- 'not applicable' and 'missing' exactly where document 01, and document 02 (vi) for Na/Cl, give them
   pub not-applicable : (v ≡ 0) ↔ (applies ≡ false)
   pub missing : (v ≡ 4) ↔ ((applies ≡ true) × (known ≡ false))
-  -- '1 if the inequality holds for every fraction strictly between h and h + 1, 2 if for none, else 3', by h where p is a multiple of 100.
-  -- Of conductivity, document 02 (v): 'for every hydrogen of 01's rule with every y² in its bracket', 'for none; else undecided, also at whole
-  -- pH'. Of Na/Cl and nitrogen, in which neither plays a part: by the record's amounts, which are the same in every choice
+  -- 'Within means that the inequality holds for every choice of these values, of hydrogen and of y²; outside means for none; else undecided,
+  -- at whole pH too'. Hydrogen is by document 01's rule: 'every fraction strictly between h and h + 1', h where p is a multiple of 100. Na/Cl
+  -- and nitrogen, in which neither hydrogen nor y² plays a part, 'follow the same rule'
   pub judged : applies ≡ true → known ≡ true → Judged Choice (Among (rangesOf s)) Holds v
-  -- so 'undecided' exactly when 'the check applies, nothing needed is missing' and both outcomes occur
+  -- so undecided 'exactly when the check applies, no needed reading is missing and both outcomes occur among those choices'
   pub undecided : (v ≡ 3) ↔ ((applies ≡ true) × (known ≡ true) × Occurs s Holds × Occurs s (λ c. Holds c → ⊥))
 
 -- of ion balance and conductivity in addition: the bounds that the inequality sets for H at a choice of amounts and of y², whatever its
@@ -42,14 +41,10 @@ pub record CheckTruth (s : List ℕ) (applies known : Bool) (Holds : Choice → 
 pub record HydrogenTruth (s : List ℕ) (Holds : Choice → Type 0) (boundsAt : Choice → Bounds) (v : ℕ) : Type 0 where
   -- the inequality at a fraction for hydrogen is that the fraction keeps the bounds
   pub bounds : (c : Choice) → Values (rangesOf s) c → Holds c ↔ AtFraction (c .hydrogen) (c .divisor) (boundsAt c)
-  -- 'at each verdict 'within' the exact inequality holds with hydrogen at exactly 10^(6 − pH); at each 'outside' it fails'
+  -- 'at each verdict 'within' the exact inequality holds with hydrogen at exactly 10^(6 − pH); at each 'outside' it fails', and 'A verdict 1
+  -- or 2 is true for every amount in those ranges'
   pub within : v ≡ 1 → (c : Choice) → Values (rangesOf s) c → AtH (phOf s) (boundsAt c)
   pub outside : v ≡ 2 → (c : Choice) → Values (rangesOf s) c → AtH (phOf s) (boundsAt c) → ⊥
-
--- ''undecided' exactly when the check applies, nothing needed is missing, that power is no whole number of billionths of a µeq/L,
--- and both outcomes occur strictly between its two neighbouring billionths'
-abbrev pub Undecided : List ℕ → Bool → Bool → (Choice → Type 0) → Type 0
-Undecided s applies known Holds = (applies ≡ true) × (known ≡ true) × (WholePh (phOf s) → ⊥) × Occurs s Holds × Occurs s (λ c. Holds c → ⊥)
 
 -- the two inequalities, by the record's own limit, alkalinity and measured conductivity
 abbrev pub BalancedIn : List ℕ → Choice → Type 0
@@ -57,14 +52,6 @@ BalancedIn s = Balanced (balanceLimit (conductivityOf s)) (alkalinityOf s)
 
 abbrev pub ConductingIn : List ℕ → Choice → Type 0
 ConductingIn s = Conducting (conductivityLimit (conductivityOf s)) (alkalinityOf s) (measuredOf (conductivityOf s))
-
--- what holds as long as each reading stands for one amount. Conductivity has y² besides, and is undecided as its `CheckTruth` says
-pub record HydrogenAlone (s : List ℕ) (v : Four) : Type 0 where
-  pub balance : (v .balance ≡ 3) ↔ Undecided s (balanceAppliesTo s) (ionsKnown s) (BalancedIn s)
-  -- Na/Cl and nitrogen are never undecided; so, by `judged`, within exactly where the inequality holds at the record's amounts, and
-  -- outside exactly where it fails
-  pub ratio : v .ratio ≡ 3 → ⊥
-  pub nitrogen : v .nitrogen ≡ 3 → ⊥
 
 -- document 02 (v): 'then 10^9 y² lies between' the ends of the bracket, at every choice: y² by the root of the choice's own ionic strength.
 -- True hydrogen lies between the hydrogens of two choices, so y² at it lies there too
@@ -90,4 +77,3 @@ pub record Truth (s : List ℕ) (v : Four) : Type 0 where
   pub activity : ActivityTruth s
   -- there is a choice, so that 'every' and 'none' are never both true
   pub choice : (c : Choice) × Among (rangesOf s) c
-  pub alone : HydrogenAlone s v

@@ -1,15 +1,24 @@
 -- The range of a reading's amounts: all that `solution` and `judge` know of it.
-use mathlib.Core.Path.{_≡_, refl}
-use Prim.Native.Nat.{_≤_}
+use mathlib.Core.Path.{_≡_, refl, sym}
+use mathlib.Core.Bool.{Bool, true, false}
+use Prim.Native.Nat.{ℕ, _*_, _≤_, _<_}
+use native.Mathlib.Nat.{mul-pos, mul-le-mul-right}
+use native.Mathlib.Decide.{decLt}
 use native.Mathlib.Omega.{arith}
-use lib.Dec.{lit≤}
+use lib.Dec.{lit≤, lit<}
+use lib.Ieee.{Float}
+use lib.Ieee.Positive.{num, den, den-pos}
 use Rattle.refusal.specs.Outcome.{Outcome}
 use Rattle.refusal.specs.Outcome.Outcome.{given, refused}
 use Rattle.reading.specs.declared.Reading.{Reading}
+use Rattle.reading.specs.declared.Reading.the-variants.{Missing, Measured, Below}
 use Rattle.reading.specs.declared.Analyte.{Analyte}
-use Rattle.reading.specs.Amounts.{mostMass, Amount, amountOf}
-use Rattle.reading.specs.Analytes.{massIn, massOf, analyteOf, rangeOf, AmountRangeLaws}
+use Rattle.reading.specs.Ranges.{isLimit}
+use Rattle.reading.specs.Amounts.{mostMass, nearest, perMilligram, Amount, valueMass, halfMass, amountOf}
+use Rattle.reading.specs.Analytes.{massIn, massOf, analyteOf, rangeFrom, rangeOf, Has, AmountRangeLaws}
+use Rattle.reading.proofs.RangeLaws.{limit-value}
 use Rattle.reading.proofs.AmountProofs.{amount-laws}
+use Rattle.reading.proofs.AnalyteLaws.{measured-mass, below-mass, none-below}
 
 -- an amount is at most that of 200 mg/L
 mass-most : (r : Reading) → massOf r ≤ mostMass
@@ -24,21 +33,49 @@ mass-most r = go (amountOf r) refl
 -- of any analyte, also one made by hand
 pub range-ordered : (a : Analyte) → rangeOf a .least ≤ rangeOf a .most
 unfolding rangeOf
-range-ordered a = omega arith
+range-ordered a = go (a .reading)
+  where
+    go : (r : Reading) → rangeFrom r (a .mass .0) (a .limit .0) .least ≤ rangeFrom r (a .mass .0) (a .limit .0) .most
+    go Missing = omega arith
+    go (Measured x) = omega arith
+    go (Below x) = omega arith
 
 -- of one whose amount is its reading's
 pub range-most : (r : Reading) → rangeOf (analyteOf r) .most ≤ mostMass
 unfolding rangeOf
-range-most r = mass-most r
+range-most Missing = mass-most Missing
+range-most (Measured x) = mass-most (Measured x)
+range-most (Below x) = omega (arith, mass-most (Below x), mass-most (Measured x))
 
-own : (r : Reading) → (rangeOf (analyteOf r) .least ≤ massOf r) × (massOf r ≤ rangeOf (analyteOf r) .most)
+-- the half of a limit has no greater amount than the limit: both are rounded to the nearest
+nearest-half : (n d : ℕ) → 0 < d → nearest n (2 * d) ≤ nearest n d
+nearest-half n d some = go (decLt (nearest n d) (nearest n (2 * d)))
+  where
+    go : Dec (nearest n d < nearest n (2 * d)) → nearest n (2 * d) ≤ nearest n d
+    go (yes l) =
+        absurd (
+        omega (
+          arith,
+          mul-le-mul-right (2 * d) l,
+          amount-laws .rounded n d some .under,
+          amount-laws .rounded n (2 * d) (mul-pos (lit< tt) some) .over,
+        )
+        )
+    go (no f) = omega (arith, f)
+
+half-under-limit : (x : Float) → massOf (Below x) ≤ massOf (Measured x)
+unfolding halfMass valueMass
+half-under-limit x = go (isLimit x) refl
+  where
+    go : (b : Bool) → isLimit x ≡ b → massOf (Below x) ≤ massOf (Measured x)
+    go true h = rw (sym (below-mass x h), sym (measured-mass x (limit-value x h))) (nearest-half (perMilligram * num x) (den x) (den-pos x))
+    go false h = rw (sym (none-below x h)) (omega arith)
+
+own : (r : Reading) → Has (rangeOf (analyteOf r)) (massOf r)
 unfolding rangeOf
-own r = (omega arith, omega arith)
+own Missing = (omega arith, omega arith)
+own (Measured x) = (omega arith, omega arith)
+own (Below x) = (omega arith, omega (arith, half-under-limit x))
 
 pub amount-range-laws : AmountRangeLaws
 amount-range-laws = record { ordered = range-ordered; own = own; most = range-most }
-
--- each reading stands for its one amount. No other law says so
-pub range-point : (a : Analyte) → (rangeOf a .least ≡ a .mass .0) × (rangeOf a .most ≡ a .mass .0)
-unfolding rangeOf
-range-point a = (refl, refl)

@@ -28,6 +28,11 @@ pub below-mass : (x : Float) → isLimit x ≡ true → halfMass x ≡ massOf (B
 unfolding massOf halfAmount
 below-mass x h = ap massIn (gives (Amount.mass (halfMass x)) h)
 
+-- nothing of a limit out of range
+pub none-below : (x : Float) → isLimit x ≡ false → 0 ≡ massOf (Below x)
+unfolding massOf halfAmount
+none-below x h = ap massIn (refuses (Amount.mass (halfMass x)) h)
+
 -- ---- its amount, by whether it is in range and there
 pub none-out-of-range : (r : Reading) → isInRange r ≡ false → refused 7 ≡ amountOf r
 unfolding valueAmount halfAmount

@@ -1,4 +1,4 @@
--- Document 01, 'A reading': a reading of a record with its amount, as the checks and the comparison of two records look at it.
+-- Document 01, 'A reading', and document 02 (vi): a reading of a record with its amount, as the checks and the comparison of two records look at it.
 use mathlib.Core.Bool.{Bool, true, false}
 use Prim.Native.Nat.{ℕ, _≤_}
 use Rattle.refusal.specs.Outcome.{Outcome}
@@ -47,16 +47,27 @@ pub record AmountRange : Type 0 where
   pub least : ℕ
   pub most : ℕ
 
--- each reading stands for its one amount. `solution` and `judge` never open this definition: they know the laws of `AmountRangeLaws` alone
+-- document 02 (vi): 'a below reading now stands for every fraction from 0 to its limit's amount, both included'; any other for its amount
+abbrev pub rangeFrom : Reading → ℕ → ℕ → AmountRange
+rangeFrom Missing amount limit = record { least = amount; most = amount }
+rangeFrom (Measured x) amount limit = record { least = amount; most = amount }
+rangeFrom (Below x) amount limit = record { least = 0; most = limit }
+
+-- `solution` and `judge` never open this definition: they know the laws of `AmountRangeLaws` alone
 unfoldable pub rangeOf : Analyte → AmountRange
-rangeOf a = record { least = a .mass .0; most = a .mass .0 }
+rangeOf a = rangeFrom (a .reading) (a .mass .0) (a .limit .0)
+
+-- an amount m is in a range
+abbrev pub Has : AmountRange → ℕ → Type 0
+Has r m = (r .least ≤ m) × (m ≤ r .most)
 
 -- what the definition of a range is worth
 pub record AmountRangeLaws : Type 0 where
   -- of any analyte, also one made by hand, it has an amount
   pub ordered : (a : Analyte) → rangeOf a .least ≤ rangeOf a .most
-  -- of one whose amounts are its reading's, it has the reading's amount, and none above that of 200 mg/L
-  pub own : (r : Reading) → (rangeOf (analyteOf r) .least ≤ massOf r) × (massOf r ≤ rangeOf (analyteOf r) .most)
+  -- of one whose amounts are its reading's, it has the reading's amount (of a below reading that of half its limit), and none above that
+  -- of 200 mg/L
+  pub own : (r : Reading) → Has (rangeOf (analyteOf r)) (massOf r)
   pub most : (r : Reading) → rangeOf (analyteOf r) .most ≤ mostMass
 
 -- what was answered

@@ -1,5 +1,6 @@
-// Readings of the analyser (document 01, 'A reading', and 02 (i)): made from a value and its quantification limit, or from the
-// two words of a record; written back as words; and converted to an amount in tenths of a µg/L.
+// Readings of the analyser (document 01, 'A reading', and 02 (i) and (vi)): made from a value and its quantification limit, or from the
+// two words of a record; written back as words; and converted to an amount in
+// tenths of a µg/L, or to the range of amounts that a check takes it for.
 mod amounts;
 mod marks;
 mod ranges;
@@ -184,15 +185,30 @@ impl Analyte {
         }
     }
 
-    // Every reading stands for its one amount.
+    // A reading below its limit stands for every amount up to its limit's, any other for its one amount.
     pub fn range(self) -> MassRange
         ensures answer { λ r. ⌜ rangeIn r ≡ rangeOf self ⌝ }
         ensures laws { λ r. ⌜ AmountRangeLaws ⌝ }
     {
         let mass = self.mass;
-        MassRange {
-            least: mass,
-            most: mass,
+        let limit = self.limit;
+        let reading = self.reading;
+        match reading {
+            Reading::Missing => one_amount(mass),
+            Reading::Measured(_) => one_amount(mass),
+            Reading::Below(_) => MassRange {
+                least: Mass(0),
+                most: limit,
+            },
         }
+    }
+}
+
+fn one_amount(mass: Mass) -> MassRange
+    ensures { λ r. ⌜ r ≡ record { least = mass; most = mass } ⌝ }
+{
+    MassRange {
+        least: mass,
+        most: mass,
     }
 }

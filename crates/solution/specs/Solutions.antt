@@ -1,4 +1,4 @@
--- Document 01, 'Charge and conductance' and 'The four checks', and document 02 (v): what a record holds in solution, as the sums that the
+-- Document 01, 'Charge and conductance' and 'The four checks', and document 02 (v) and (vi): what a record holds in solution, as the sums that the
 -- checks compare and the ionic strength.
 use mathlib.Core.Bool.{Bool, cond}
 use mathlib.Core.List.{List}

@@ -11,9 +11,16 @@ use crate::numbers::{CALCIUM, CONDUCTIVITY_CHECK, ROOT_STEPS, SQUARE_UNIT, SULPH
 use reference::activity::{
     floor_of_power, lower_root, thousandths_from, thousandths_up_to, upper_root, Bracket,
 };
-use reference::checks::{plain_conductivity, Calculated, Conductivity, Verdict};
+use reference::checks::{Calculated, Conductivity, Verdict};
 use reference::ions::{alkalinity_charge, charge};
+use reference::ranges::{Ends, Range};
 use reference::record::Record;
+
+/// y² of exactly 1: the plain sum.
+const UNCORRECTED: Bracket = Bracket {
+    least: SQUARE_UNIT,
+    greatest: SQUARE_UNIT,
+};
 
 /// Conductivity as a judge with this fault has it.
 pub fn judge_by_another_correction(fault: Fault, record: &Record, verdicts: &mut [u32]) {
@@ -24,42 +31,52 @@ pub fn judge_by_another_correction(fault: Fault, record: &Record, verdicts: &mut
 
 fn verdict(fault: Fault, record: &Record, check: &Conductivity) -> Verdict {
     let is_whole = record.ph.has_whole_hydrogen();
-    if fault == PlainAtWholePh && is_whole {
-        return plain_conductivity(record);
-    }
     let h = i128::from(record.ph.floor());
     let greatest = match fault {
         FloorAtBothEnds => h,
         _ => h + i128::from(!is_whole),
     };
-    let roots = roots(
-        fault,
-        [h, greatest].map(|hydrogen| sum(fault, record, check, hydrogen)),
-    );
-    let bracket = bracket(fault, exponents(fault, roots));
+    let roots = roots(fault, strengths(fault, record, check, [h, greatest]));
+    let bracket = match fault {
+        PlainAtWholePh if is_whole => UNCORRECTED,
+        _ => bracket(fault, exponents(fault, roots)),
+    };
+    let sums = Ends {
+        least: check.plain.least.sum_at(h),
+        greatest: check.plain.greatest.sum_at(greatest),
+    };
     let calculated = Calculated {
-        least: bracket.least * check.plain.sum_at(h),
-        greatest: bracket.greatest * check.plain.sum_at(greatest),
+        least: bracket.least * sums.least,
+        greatest: bracket.greatest * sums.greatest,
         ends_are_reached: is_whole,
     };
     match fault {
-        MeasuredCorrected => correct_the_measured(check, bracket, [h, greatest]),
+        MeasuredCorrected => correct_the_measured(check, bracket, sums),
         _ => check.judge(calculated),
     }
 }
 
-/// Twice the strength with so much hydrogen.
-fn sum(fault: Fault, record: &Record, check: &Conductivity, hydrogen: i128) -> i128 {
-    let charged = |ion: usize| record.amount(ion).map_or(0, |amount| charge(ion, amount));
-    let whole = hydrogen + check.weighed;
-    whole
-        - match fault {
+/// Twice the least strength and twice the greatest, with so much hydrogen each.
+fn strengths(
+    fault: Fault,
+    record: &Record,
+    check: &Conductivity,
+    [low, high]: [i128; 2],
+) -> [i128; 2] {
+    let left_out = |hydrogen: i128, end: fn(Range) -> u32| {
+        let charged = |ion: usize| record.range(ion).map_or(0, |range| charge(ion, end(range)));
+        match fault {
             CalciumOfChargeOne => charged(CALCIUM),
             SulphateOfChargeOne => charged(SULPHATE),
             HydrogenLeftOut => hydrogen,
             AlkalinityLeftOut => alkalinity_charge(record.alkalinity),
             _ => 0,
         }
+    };
+    [
+        low + check.weighed.least - left_out(low, |range| range.least),
+        high + check.weighed.greatest - left_out(high, |range| range.greatest),
+    ]
 }
 
 /// The lower s and the upper s, in steps.
@@ -117,9 +134,9 @@ fn bracket(fault: Fault, (lower, upper): (u32, u32)) -> Bracket {
 
 /// The plain sum compared with y² × CM: where 10^9 × the sum, times 100, is from
 /// y² × the least limit to y² × the greatest.
-fn correct_the_measured(check: &Conductivity, bracket: Bracket, hydrogen: [i128; 2]) -> Verdict {
+fn correct_the_measured(check: &Conductivity, bracket: Bracket, sums: Ends<i128>) -> Verdict {
     let (from, to) = check.limits();
-    let [least, greatest] = hydrogen.map(|h| 100 * SQUARE_UNIT * check.plain.sum_at(h));
+    let Ends { least, greatest } = sums.both(|sum| 100 * SQUARE_UNIT * sum);
     let (from, to) = (from / SQUARE_UNIT, to / SQUARE_UNIT);
     if from * bracket.greatest <= least && greatest <= to * bracket.least {
         Verdict::Within
@@ -133,12 +150,10 @@ fn correct_the_measured(check: &Conductivity, bracket: Bracket, hydrogen: [i128;
 #[cfg(test)]
 mod tests {
     use super::*;
-    use crate::faults::CORRECTION;
+    use crate::faults::{stored_records, CORRECTION};
     use reference::cases::bottle::{plausible, Bottle};
     use reference::cases::generator::Generator;
-    use reference::cases::replay_input;
     use reference::checks::conductivity;
-    use reference::words::whole_words;
 
     fn record(bottle: &Bottle) -> Record {
         Record::read(bottle.words()).expect("a record")
@@ -156,20 +171,6 @@ mod tests {
             let found = verdict(Fault::TieGoesDown, &record, &check);
             assert_eq!(found, conductivity(&record));
         }
-    }
-
-    /// The records that the stored cases judge.
-    fn stored_records() -> Vec<Record> {
-        let words = whole_words(&replay_input());
-        let (mut rest, mut records) = (words.as_slice(), Vec::new());
-        while let Some((&[call, count], after)) = rest.split_first_chunk() {
-            let (case, later) = after.split_at(after.len().min(count as usize));
-            if call == 7 {
-                records.extend(Record::read(case));
-            }
-            rest = later;
-        }
-        records
     }
 
     /// Each fault changes verdicts among the stored cases, too.
@@ -193,7 +194,7 @@ mod tests {
         let check = Conductivity::of(&record).expect("all ions");
         let h = i128::from(record.ph.floor());
         let ends = |fault: Fault| {
-            let roots = roots(fault, [sum(fault, &record, &check, h); 2]);
+            let roots = roots(fault, strengths(fault, &record, &check, [h; 2]));
             let Bracket { least, greatest } = bracket(fault, exponents(fault, roots));
             (least, greatest)
         };

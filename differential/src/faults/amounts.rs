@@ -3,7 +3,10 @@
 
 use super::Fault::{self, HalfOfTheRounded, TieGoesDown, WholeMicrograms};
 use crate::floats::ends;
-use crate::numbers::{bits_of, mark_of, BITS, FIRST_READING, READINGS_END, READING_WORDS};
+use crate::numbers::{
+    bits_of, mark_of, BITS, FIRST_READING, LEAST_LIMIT_BITS, ORGANIC_CARBON, READINGS_END,
+    READING_WORDS,
+};
 use reference::cases::floats::ties;
 use reference::readings::Reading;
 use reference::record::Record;
@@ -15,46 +18,81 @@ use std::sync::OnceLock;
 pub fn misread(fault: Fault, words: &[u32]) -> Vec<u32> {
     match fault {
         TieGoesDown => ties_lowered(words),
-        WholeMicrograms => with_amounts(words, in_micrograms),
-        HalfOfTheRounded => with_amounts(words, half_of_the_rounded),
+        WholeMicrograms => with_readings(words, |_, reading| rounded(reading, in_micrograms)),
+        HalfOfTheRounded => with_readings(words, |place, reading| {
+            let half = half_of_the_rounded(reading);
+            half.filter(|_| place == ORGANIC_CARBON)
+                .map(|half| (1, half))
+        }),
         _ => words.to_vec(),
     }
 }
 
-/// The record with each reading measured, in the amount that is told for it.
-/// Readings without one stay, and so do words that are no record.
-pub fn with_amounts(words: &[u32], amount: impl Fn(Reading) -> Option<u32>) -> Vec<u32> {
+/// A mark and an amount: a limit's own where the mark is that of below.
+type Told = (u32, u32);
+
+/// The record with each reading as it is told for it. Readings without that
+/// stay, and so do words that are no record.
+pub fn with_readings(words: &[u32], told: impl Fn(usize, Reading) -> Option<Told>) -> Vec<u32> {
     let mut changed = words.to_vec();
     let readings = Record::read(words).map(|record| record.readings);
     for (place, reading) in readings.into_iter().flatten().enumerate() {
-        if let Some(amount) = amount(reading) {
-            changed[mark_of(place)] = 1;
-            changed[bits_of(place)] = ends(amount).0;
+        if let Some((mark, amount)) = told(place, reading) {
+            let (least, _) = ends(amount);
+            changed[mark_of(place)] = mark;
+            changed[bits_of(place)] = match mark {
+                2 => least.max(LEAST_LIMIT_BITS),
+                _ => least,
+            };
         }
     }
     changed
 }
 
+/// The record with each reading measured, in the amount that is told for it.
+pub fn with_amounts(words: &[u32], amount: impl Fn(Reading) -> Option<u32>) -> Vec<u32> {
+    with_readings(words, |_, reading| {
+        amount(reading).map(|amount| (1, amount))
+    })
+}
+
+/// Every below reading measured as half its limit.
+pub fn with_halves(words: &[u32]) -> Vec<u32> {
+    with_readings(words, |_, reading| match reading {
+        Reading::Below(_) => reading.amount().map(|half| (1, half)),
+        _ => None,
+    })
+}
+
+/// The reading with its own value or its limit rounded otherwise.
+pub fn rounded(reading: Reading, amount: impl Fn(f32) -> u32) -> Option<Told> {
+    match reading {
+        Reading::Missing => None,
+        Reading::Measured(value) => Some((1, amount(f32::from_bits(value.bits())))),
+        Reading::Below(limit) => Some((2, amount(f32::from_bits(limit.bits())))),
+    }
+}
+
 /// The scale of 1,000 kept: whole µg/L, which are ten tenths each.
-pub fn in_micrograms(reading: Reading) -> Option<u32> {
-    let milligrams = match reading {
-        Reading::Missing => return None,
-        Reading::Measured(value) => f32::from_bits(value.bits()),
-        Reading::Below(limit) => f32::from_bits(limit.bits()) / 2.0,
-    };
+fn in_micrograms(milligrams: f32) -> u32 {
     // A product of 24 bits and 10 is exact in an f64.
-    let micrograms = (1_000.0 * f64::from(milligrams) + 0.5) as u32;
-    Some(10 * micrograms)
+    10 * (1_000.0 * f64::from(milligrams) + 0.5) as u32
+}
+
+/// The same with half a limit.
+pub fn halves_in_micrograms(reading: Reading) -> Option<u32> {
+    match reading {
+        Reading::Missing => None,
+        Reading::Measured(value) => Some(in_micrograms(f32::from_bits(value.bits()))),
+        Reading::Below(limit) => Some(in_micrograms(f32::from_bits(limit.bits()) / 2.0)),
+    }
 }
 
 /// Half the limit's amount in place of the amount of half the limit: rounded
 /// twice.
 fn half_of_the_rounded(reading: Reading) -> Option<u32> {
     match reading {
-        Reading::Below(limit) => {
-            let whole = Reading::Measured(limit).amount();
-            whole.map(|amount| amount.div_ceil(2))
-        }
+        Reading::Below(_) => Some(reading.range()?.greatest.div_ceil(2)),
         other => other.amount(),
     }
 }

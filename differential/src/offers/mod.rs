@@ -4,6 +4,7 @@
 mod followed;
 mod handed_in;
 mod repeats;
+mod written;
 
 use crate::bottles::{any_bottle, trace};
 use crate::case::{Mismatch, Run};
@@ -30,6 +31,13 @@ pub fn run(run: &mut Run) -> Result<(), Mismatch> {
     for room in 0..=MOST_DOCKET_ROOM {
         let offers = vec![Bottle::printed().words().to_vec()];
         run.check(Followed { offers, room })?;
+    }
+    for pair in written::ties_in_halves() {
+        let offers = pair.map(|bottle| bottle.words().to_vec()).to_vec();
+        run.check(Followed {
+            offers,
+            room: DOCKET_WORDS,
+        })?;
     }
     for _ in 0..LISTS {
         let offers = list(&mut run.generator);

@@ -1,5 +1,6 @@
-//! Part 1: records. Drawn ones, ones on a limit or a step beside it, ones whose
-//! strength is on a square or beside it, and damaged ones.
+//! Part 1: records. Drawn ones, ones on a limit or a step beside it, where below
+//! readings are at an end of their ranges, ones whose strength is on a square or
+//! beside it, and damaged ones.
 
 mod case;
 mod damage;
@@ -11,11 +12,13 @@ pub use damage::damaged;
 
 use crate::bottles::any_bottle;
 use crate::case::{Mismatch, Run};
-use crate::floats::{any_reading, ends};
+use crate::floats::{any_limit_with, any_reading, ends};
 use crate::numbers::{
-    ALKALINITY, BULK, CARBON_LINE, CHECKS, CONDUCTIVITY, LEAST_PH, MOST_ALKALINITY, MOST_AMOUNT,
-    MOST_CONDUCTIVITY, MOST_PH, ORGANIC_CARBON, PH, READINGS, RUNOFF, SOIL_WATER, WET_ONLY,
+    ALKALINITY, BULK, CARBON_LINE, CHECKS, CONDUCTIVITY, LEAST_LIMIT, LEAST_PH, MOST_ALKALINITY,
+    MOST_AMOUNT, MOST_CONDUCTIVITY, MOST_PH, ORGANIC_CARBON, PH, READINGS, RUNOFF, SOIL_WATER,
+    WET_ONLY,
 };
+use crate::on_a_range::bottle_on_a_range;
 use crate::on_an_edge::bottle_on_an_edge;
 use crate::on_the_limit::bottle_on_a_limit;
 use crate::random::Draw;
@@ -34,6 +37,7 @@ const FLIPS: u32 = 6_000;
 const SOLVED: u32 = 300;
 const NEIGHBOURS: u32 = 25;
 const STRENGTHS: u32 = 1_000;
+const RANGES: u32 = 1_500;
 const DAMAGED: u32 = 20_000;
 
 pub fn run(run: &mut Run) -> Result<(), Mismatch> {
@@ -56,6 +60,10 @@ fn round(run: &mut Run) -> Result<(), Mismatch> {
         and_neighbours(run, solved)?;
     }
     strengths(run)?;
+    for _ in 0..RANGES {
+        let bottle = bottle_on_a_range(&mut run.generator);
+        check(run, bottle.words())?;
+    }
     for _ in 0..DAMAGED {
         let words = damaged(&mut run.generator);
         check(run, &words)?;
@@ -147,10 +155,18 @@ fn neighbour(generator: &mut Generator, bottle: &Bottle) -> Bottle {
 }
 
 /// Another float for a reading: of the same amount, or the next bits after the
-/// ends of that amount's floats.
+/// ends of that amount's floats. A limit mostly stays one, of the same amount or
+/// of the next.
 fn other_float(generator: &mut Generator, bottle: &Bottle, place: usize) -> Bottle {
     let (mark, bits) = bottle.mark_and_bits(place);
     let reading = Reading::from_words(mark, bits);
+    if let (Ok(Reading::Below(_)), false) = (reading, generator.once_in(4)) {
+        let range = reading.ok().and_then(Reading::range);
+        let limit = range.map_or(LEAST_LIMIT, |range| range.greatest);
+        let beside = limit + generator.pick(&[0, 1, 2]) - 1;
+        let beside = beside.clamp(LEAST_LIMIT, MOST_AMOUNT);
+        return bottle.below(place, any_limit_with(generator, beside));
+    }
     let Some(amount) = reading.ok().and_then(Reading::amount) else {
         return bottle.amount(place, generator.below(90_000));
     };

@@ -3,8 +3,8 @@
 
 use crate::floats::ends;
 use crate::numbers::{
-    AMMONIUM, CARBON_LINE, CHLORIDE, LEAST_LIMIT_BITS, MOST_AMOUNT, MOST_BITS, NITRATE,
-    ORGANIC_CARBON, SODIUM, SOIL_WATER, TOTAL_NITROGEN, WET_ONLY,
+    AMMONIUM, CARBON_LINE, CHLORIDE, LEAST_LIMIT_BITS, MOST_AMOUNT, NITRATE, ORGANIC_CARBON,
+    SODIUM, SOIL_WATER, TOTAL_NITROGEN, WET_ONLY,
 };
 use crate::sample_numbers;
 use reference::cases::bottle::Bottle;
@@ -33,20 +33,17 @@ fn amount(bits: u32) -> u32 {
 }
 
 /// Nitrate on a tie and beside it, total nitrogen its amount and one less:
-/// there the nitrogen check tells how the tie went. Likewise as half a limit.
-/// A tie is an odd number of 32nds of a mg/L, each of which is 312.5 tenths of
-/// a µg/L.
+/// there the nitrogen check tells how the tie went. Likewise as a limit, the end
+/// of nitrate's range. A tie is an odd number of 32nds of a mg/L, each of which
+/// is 312.5 tenths of a µg/L.
 fn ties_in_nitrogen() -> impl Iterator<Item = Bottle> {
     let bottle = Bottle::printed().amount(AMMONIUM, 0);
     let floats = ties().into_iter().flat_map(|tie| [tie - 1, tie, tie + 1]);
     floats.flat_map(move |bits| {
         let amount = amount(bits);
-        let measured = bottle.reading(NITRATE, 1, bits);
-        let limit = bits + DOUBLE;
-        let below = (limit <= MOST_BITS).then(|| bottle.below(NITRATE, limit));
-        let nitrates = [Some(measured), below].into_iter().flatten();
-        nitrates.flat_map(move |nitrate| {
-            [amount.saturating_sub(1), amount].map(|total| nitrate.amount(TOTAL_NITROGEN, total))
+        let nitrates = [1, 2].map(|mark| bottle.reading(NITRATE, mark, bits));
+        nitrates.into_iter().flat_map(move |nitrate| {
+            [amount - 1, amount].map(|total| nitrate.amount(TOTAL_NITROGEN, total))
         })
     })
 }
@@ -74,7 +71,7 @@ fn exact_ratios() -> impl Iterator<Item = Bottle> {
 }
 
 /// Chloride of amount 0, to which Na/Cl doesn't apply, and of one tenth of a
-/// µg/L, to which it does; the least that half a limit can be is more.
+/// µg/L, to which it does; below the least limit, to which it doesn't either.
 fn little_chloride() -> impl Iterator<Item = Bottle> {
     let (first, last) = ends(1);
     let readings = [
@@ -148,14 +145,14 @@ mod tests {
     }
 
     /// One less than nitrate's amount is outside, its amount within: so each
-    /// float has the amount that it is written down with.
+    /// float has the amount that it is written down with. One less than its
+    /// limit's amount is undecided.
     #[test]
     fn ties_show_in_nitrogen() {
         let verdicts = verdicts(ties_in_nitrogen(), NITROGEN_CHECK);
-        assert!(verdicts.chunks(2).all(|pair| pair == [2, 1]));
-        // 3,200 ties measured, with the floats beside them; the limits of the
-        // 1,600 up to 100 mg/L.
-        assert_eq!(verdicts.len(), 2 * 3 * (3_200 + 1_600));
+        assert!(verdicts.chunks(4).all(|four| four == [2, 1, 3, 1]));
+        // 3,200 ties, with the floats beside them.
+        assert_eq!(verdicts.len(), 4 * 3 * 3_200);
     }
 
     /// By kind, in the order in which chloride is written down.
@@ -167,9 +164,8 @@ mod tests {
         assert_eq!(of_bulk(1), [0; 5]);
         assert_eq!(of_bulk(2), [2, 2, 2, 2, 4]);
         assert_eq!(of_bulk(3), [2, 2, 2, 2, 4]);
-        // Of 5 tenths: 2 × 4350 × 2 = 17,400 is from 2821 × 5 = 14,105 to
-        // 3 × 2821 × 5 = 42,315, and 2 × 4350 × 5 = 43,500 isn't.
-        assert_eq!(of_bulk(4), [2, 2, 1, 2, 4]);
+        // Below its limit it may be none.
+        assert_eq!(of_bulk(4), [0; 5]);
     }
 
     /// Measured and as half a limit: the float before the line is judged, the

@@ -50,7 +50,7 @@ fn all_ten_rows_are_weighed() {
 fn the_printed_sample_has_its_strength() {
     let record = Record::read(Bottle::printed().words()).expect("a record");
     let check = Conductivity::of(&record).expect("all ions");
-    let weighed = weighed_with(10_000_000_000, check.weighed);
+    let weighed = weighed_with(10_000_000_000, check.weighed.least);
     assert_eq!(weighed, 243_780_000_000);
     // I is 0.00012189, s from 0.011040 to 0.011041, e from 0.0108828 on.
     assert_eq!((lower_root(weighed), upper_root(weighed)), (11_040, 11_041));
@@ -166,7 +166,7 @@ fn y_squared_is_in_its_bracket() {
         };
         let h = i128::from(record.ph.floor());
         let bracket = check.bracket(h, record.ph.has_whole_hydrogen());
-        let strength = weighed_with(h, check.weighed) as f64 / 2e15;
+        let strength = weighed_with(h, check.weighed.least) as f64 / 2e15;
         let e = strength.sqrt() / (1.0 + strength.sqrt()) - 0.3 * strength;
         let square = 1e9 * 10f64.powf(-e);
         assert!(bracket.least as f64 <= square && square <= bracket.greatest as f64);

@@ -6,11 +6,12 @@
 //! (100 − M) to (100 + M) hundredths of the measured: where an end of the one
 //! meets an end of the other the verdict changes. They never meet exactly
 //! (`no_end_of_a_bracket_is_ever_on_a_limit` below), so there is always a last
-//! plain sum before and a first one after.
+//! plain sum before and a first one after. Below readings change nothing in that:
+//! at 0 and at their limits they have whole amounts as measured ones have.
 
 use super::bottle::Bottle;
 use super::generator::Generator;
-use super::solver::{split, End, Ions, ENDS, TENTH_CHARGES};
+use super::solver::{split, End, Fixed, Ions, ENDS, TENTH_CHARGES};
 use crate::activity::{weighed_with, weighed_without_hydrogen, Bracket};
 use crate::checks::{conductivity_limit, Conductivity};
 use crate::hydrogen::Ph;
@@ -19,6 +20,7 @@ use crate::numbers::{
     AMOUNT_CHARGE, CHLORIDE, CONDUCTIVITY_TENTH, IONS, MOST_ALKALINITY, MOST_AMOUNT,
     MOST_CONDUCTIVITY, POTASSIUM, SQUARE_UNIT,
 };
+use crate::ranges::Ends;
 use crate::record::Record;
 
 /// An end of the bracket on an end of what is within, at a measured
@@ -94,7 +96,8 @@ impl Edge {
             greatest: SQUARE_UNIT,
         };
         let ions = (0..20_000).find_map(|_| {
-            let ions = ions_conducting(generator, self.conducted(tried, ph, steps))?;
+            let sum = self.conducted(tried, ph, steps);
+            let ions = ions_conducting(generator, sum, &Fixed::default())?;
             let found = bracket_of(&ions.amounts, ions.alkalinity, ph);
             let is_right = found == tried;
             tried = found;
@@ -107,9 +110,20 @@ impl Edge {
 
 /// The bracket of these ions at a pH.
 pub fn bracket_of(amounts: &[u32; IONS], alkalinity: u32, ph: Ph) -> Bracket {
-    let weighed = weighed_without_hydrogen(amounts, alkalinity);
-    let [least, greatest] = ENDS.map(|end| weighed_with(hydrogen_at(ph, end), weighed));
-    Bracket::of(least, greatest)
+    let ends = Ends {
+        least: *amounts,
+        greatest: *amounts,
+    };
+    bracket_between(&ends, alkalinity, ph)
+}
+
+/// The bracket from the least of each ion to the greatest of each.
+pub fn bracket_between(ions: &Ends<[u32; IONS]>, alkalinity: u32, ph: Ph) -> Bracket {
+    let weighed = ions.both(|amounts| weighed_without_hydrogen(&amounts, alkalinity));
+    Bracket::of(
+        weighed_with(hydrogen_at(ph, End::Least), weighed.least),
+        weighed_with(hydrogen_at(ph, End::Greatest), weighed.greatest),
+    )
 }
 
 /// What one tenth of a µg/L of an ion adds, in units of 10^3 × 10^−13 µS/cm.
@@ -120,8 +134,9 @@ pub const fn conducted(ion: usize) -> i128 {
 /// What one tenth of a µeq/L of alkalinity adds, in the same units.
 pub const CONDUCTED_BY_ALKALINITY: i128 = ALKALINITY_CONDUCTANCE * TENTH_CHARGES;
 
-/// Draws all but potassium and chloride, then searches these two.
-fn ions_conducting(generator: &mut Generator, sum: i128) -> Option<Ions> {
+/// Draws all but potassium and chloride and those that are given, then searches
+/// these two.
+pub fn ions_conducting(generator: &mut Generator, sum: i128, fixed: &Fixed) -> Option<Ions> {
     if sum < 0 {
         return None;
     }
@@ -133,7 +148,7 @@ fn ions_conducting(generator: &mut Generator, sum: i128) -> Option<Ions> {
         generator.below(share as u32 + 1)
     };
     for (ion, amount) in amounts.iter_mut().enumerate() {
-        *amount = share(conducted(ion), MOST_AMOUNT);
+        *amount = fixed[ion].unwrap_or_else(|| share(conducted(ion), MOST_AMOUNT));
     }
     let alkalinity = share(CONDUCTED_BY_ALKALINITY, MOST_ALKALINITY);
     amounts[POTASSIUM] = 0;

@@ -45,6 +45,12 @@ pub fn limit_of(amount: u32) -> u32 {
     (float_of(amount) + DOUBLE).clamp(LEAST_LIMIT_BITS, MOST_BITS)
 }
 
+/// A quantification limit that has this amount itself, from `LEAST_LIMIT` to
+/// `MOST_AMOUNT`: the end of its range.
+pub fn limit_with(amount: u32) -> u32 {
+    float_of(amount).clamp(LEAST_LIMIT_BITS, MOST_BITS)
+}
+
 /// The bits of numerator / 2^places, for a numerator of 1 to 2^24 − 1.
 pub fn dyadic(numerator: u32, places: u32) -> u32 {
     let high_bit = 31 - numerator.leading_zeros();
@@ -67,7 +73,17 @@ pub fn ties() -> Vec<u32> {
 #[cfg(test)]
 mod tests {
     use super::*;
-    use crate::numbers::{CARBON_LINE, LEAST_BELOW, MOST_BELOW, MOST_MILLIGRAMS};
+    use crate::numbers::{CARBON_LINE, LEAST_BELOW, LEAST_LIMIT, MOST_BELOW, MOST_MILLIGRAMS};
+    use crate::ranges::Range;
+
+    #[test]
+    fn limits_have_their_own_amounts() {
+        let ends = |amount: u32| Reading::below(limit_with(amount)).map(Reading::range);
+        let near_the_most = MOST_AMOUNT - 20..=MOST_AMOUNT;
+        for amount in (LEAST_LIMIT..=1_000).chain(near_the_most) {
+            assert_eq!(ends(amount), Ok(Some(Range::up_to(amount))));
+        }
+    }
 
     fn below_amount(bits: u32) -> Option<u32> {
         Reading::below(bits).ok().and_then(Reading::amount)

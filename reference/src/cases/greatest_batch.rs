@@ -4,11 +4,12 @@
 use super::batches::{batch, chart};
 use super::bottle::{plausible, Bottle};
 use super::generator::Generator;
+use super::ranges::with_below;
 use super::undecided::{undecided_balance, undecided_conductivity};
 use crate::batch::Chart;
 use crate::numbers::{
     reading_of, MOST_CHARTS, MOST_LATER, MOST_NUMBER, MOST_SAMPLES, MOST_SETUP, MOST_VALUE,
-    NUMBER_DIGITS, SOIL_WATER,
+    NUMBER_DIGITS, READINGS, SOIL_WATER,
 };
 use crate::words::to_bytes;
 
@@ -38,8 +39,8 @@ pub fn charts_and_samples() -> (Vec<Chart>, Vec<Bottle>) {
     let mut samples: Vec<Bottle> = (0..MOST_SAMPLES)
         .map(|index| sample(&mut generator, index))
         .collect();
-    // Verdict 3 on the ion balance is so rare that it has to be put in; on
-    // conductivity it is put in as well, once at whole pH.
+    // Without below readings verdict 3 on the ion balance is so rare that it has
+    // to be put in; on conductivity it is put in as well, once at whole pH.
     for (place, undecided) in [
         (123, undecided_balance()),
         (222, undecided_conductivity(600)),
@@ -89,7 +90,8 @@ fn number_of(index: u32) -> u64 {
 }
 
 /// Plausible samples of every kind; some lack all the elements whose charts
-/// end with a signal, some all but one of these.
+/// end with a signal, some all but one of these, some have one to ten readings
+/// below their limits.
 fn sample(generator: &mut Generator, index: u32) -> Bottle {
     let mut bottle = plausible(generator)
         .number(number_of(index))
@@ -97,6 +99,10 @@ fn sample(generator: &mut Generator, index: u32) -> Bottle {
     let spared = match index % 8 {
         0 => None,
         1 => Some(SIGNALLED[index as usize / 8 % 3]),
+        2 | 3 => {
+            let count = 1 + index as usize / 8 % READINGS;
+            return with_below(&mut Generator::new(u64::from(index)), &bottle, count);
+        }
         _ => return bottle,
     };
     for element in SIGNALLED {
@@ -137,7 +143,7 @@ mod tests {
         assert_eq!(count, &[MOST_SAMPLES.to_string()]);
         assert_eq!(rows.len(), MOST_SAMPLES as usize);
         // The number, then the verdicts and the flag.
-        let values: [&str; CHECKS + 1] = ["0124", "124", "0124", "0124", "01"];
+        let values: [&str; CHECKS + 1] = ["01234", "1234", "01234", "01234", "01"];
         for (field, values) in (1..).zip(values) {
             for value in values.chars() {
                 let value = value.to_string();

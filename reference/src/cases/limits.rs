@@ -117,8 +117,8 @@ fn sodium_chloride(cases: &mut Cases) {
 }
 
 /// Chloride that rounds to 0 or 1, or to the last that whole µg/L would take
-/// for 0, with sodium, without, and missing; half of the least limit, with
-/// sodium on both sides of both ends of the ratio.
+/// for 0, with sodium, without, and missing; below the least limit, where there
+/// is no ratio whatever sodium is, also where half the limit has one.
 fn little_chloride(cases: &mut Cases, kind: u32) {
     let one = least_float_of(1);
     for bits in [0, 1, one - 1, one, float_of(4)] {

@@ -16,6 +16,7 @@ pub mod offers;
 pub mod one_bottle;
 pub mod pairs;
 pub mod questions;
+pub mod ranges;
 pub mod readings;
 pub mod records;
 pub mod sample_numbers;
@@ -45,7 +46,7 @@ impl Cases {
     }
 
     /// The words of each case of a call.
-    fn of_call(&self, call: u32) -> Vec<&[u32]> {
+    pub fn of_call(&self, call: u32) -> Vec<&[u32]> {
         let mut found = Vec::new();
         let mut rest = self.words.as_slice();
         while let Some((&[number, count], after)) = rest.split_first_chunk() {
@@ -67,8 +68,13 @@ impl Cases {
 /// The input of `replay`. Its very last case is malformed: the input ends in
 /// the middle of it.
 pub fn replay_input() -> Vec<u8> {
+    crate::words::to_bytes(&replay_cases().words)
+}
+
+/// The cases of `replay`, subject by subject.
+pub fn replay_cases() -> Cases {
     let mut cases = Cases::default();
-    let subjects: [fn(&mut Cases); 14] = [
+    let subjects: [fn(&mut Cases); 15] = [
         hydrogen::all,
         readings::all,
         questions::all,
@@ -76,6 +82,7 @@ pub fn replay_input() -> Vec<u8> {
         limits::all,
         undecided::all,
         strength::all,
+        ranges::all,
         agreement::all,
         offers::all,
         charts::all,
@@ -87,7 +94,7 @@ pub fn replay_input() -> Vec<u8> {
     for subject in subjects {
         subject(&mut cases);
     }
-    crate::words::to_bytes(&cases.words)
+    cases
 }
 
 #[cfg(test)]
@@ -97,7 +104,7 @@ mod tests {
     #[test]
     fn only_the_last_case_is_malformed() {
         let input = super::replay_input();
-        assert!(input.len() < 4_000_000, "{} bytes", input.len());
+        assert!(input.len() < 4_250_000, "{} bytes", input.len());
         let text = replay::text(&input);
         let malformed = text.lines().filter(|line| *line == "malformed").count();
         assert_eq!(malformed, 1);
@@ -111,7 +118,7 @@ mod tests {
             .lines()
             .filter(|line| line.starts_with("judged"))
             .collect();
-        for (check, verdicts) in [(1, "01234"), (2, "1234"), (3, "0124"), (4, "0124")] {
+        for (check, verdicts) in [(1, "01234"), (2, "1234"), (3, "01234"), (4, "01234")] {
             for verdict in verdicts.chars() {
                 let occurs = judged.iter().any(|line| {
                     let field = line.split(' ').nth(check);

@@ -1,9 +1,11 @@
 //! The input of `follow`: one bottle whose readings move until the third
-//! analysis agrees with the second: potassium at 3.4 and 3.5 µg/L, which whole
-//! µg/L would set apart. The bottle's number has fifteen digits; some offers are
-//! of a bottle with another high or low word.
+//! analysis agrees with the second: potassium measured as 3.4 µg/L and below a
+//! limit with a half of 3.5 µg/L, which whole µg/L would set apart, and the limit
+//! itself too. The bottle's number has fifteen digits; some offers are of a
+//! bottle with another high or low word.
 
 use super::bottle::Bottle;
+use super::floats::limit_of;
 use crate::numbers::{
     mark_of, CALCIUM, CHLORIDE, MOST_ALKALINITY, MOST_PH, POTASSIUM, SODIUM, STEMFLOW, WORD_BYTES,
 };
@@ -25,7 +27,7 @@ pub fn follow_input() -> Vec<u8> {
         .ph(527)
         .amount(CALCIUM, 10_710)
         .amount(SODIUM, 18_800)
-        .amount(POTASSIUM, 35);
+        .below(POTASSIUM, limit_of(35));
     let offers = [
         first.ph(MOST_PH + 1),
         first.clone(),

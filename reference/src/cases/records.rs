@@ -27,7 +27,7 @@ pub fn all(cases: &mut Cases) {
 }
 
 /// The bottles of the sixteen proved cases and the printed sample. Cases 13 to 16
-/// are of the plain sum; here all are judged as 02 (v) has it.
+/// are of the plain sum; here all are judged as 02 (v) and (vi) have it.
 fn proved(cases: &mut Cases) {
     for p in [600, 530, 999] {
         cases.add(1, &[p]);
@@ -221,7 +221,8 @@ fn missing_readings(cases: &mut Cases) {
     }
 }
 
-/// A below reading counts as half its limit.
+/// Each reading below the least limit, one that is half of another, that other, and
+/// the greatest: for the checks it is all from 0 to that.
 fn below_readings(cases: &mut Cases) {
     for kind in KINDS {
         let whole = Bottle::printed().kind(kind).amount(ORGANIC_CARBON, 30_000);

@@ -57,10 +57,24 @@ impl Bound {
 
     /// A bottle with this end at N, or nothing where the search gives up.
     pub fn bottle(self, generator: &mut Generator, ph: u32, n: i128) -> Option<Bottle> {
-        let ions = balance_ions(generator, self.tenths, self.end, n)?;
+        self.bottle_with(generator, ph, n, &Fixed::default())
+    }
+
+    /// The same with some amounts given.
+    pub fn bottle_with(
+        self,
+        generator: &mut Generator,
+        ph: u32,
+        n: i128,
+        fixed: &Fixed,
+    ) -> Option<Bottle> {
+        let ions = balance_ions(generator, self, n, fixed)?;
         Some(ions.bottle().ph(ph).conductivity(self.tenths))
     }
 }
+
+/// The amounts that a search must leave as they are; the others are its own.
+pub type Fixed = [Option<u32>; IONS];
 
 /// The eight amounts and the alkalinity of a bottle.
 pub struct Ions {
@@ -96,16 +110,17 @@ fn charges(amounts: &[u32; IONS], ions: std::ops::Range<usize>) -> i128 {
 
 /// Draws cations until the anions they need are a whole number, then searches
 /// anions.
-fn balance_ions(generator: &mut Generator, tenths: u32, end: End, n: i128) -> Option<Ions> {
-    let (anion_weight, cation_weight) = balance_weights(tenths, end);
+fn balance_ions(generator: &mut Generator, bound: Bound, n: i128, fixed: &Fixed) -> Option<Ions> {
+    let (anion_weight, cation_weight) = balance_weights(bound.tenths, bound.end);
     for _ in 0..10_000 {
         let mut amounts = [0; IONS];
-        for amount in &mut amounts[CATIONS] {
-            *amount = generator.below(120_000);
+        for ion in CATIONS {
+            amounts[ion] = fixed[ion].unwrap_or_else(|| generator.below(120_000));
         }
         let weighed = n + cation_weight * charges(&amounts, CATIONS);
         if weighed >= 0 && weighed % anion_weight == 0 {
-            if let Some(ions) = anions_of(generator, amounts, weighed / anion_weight) {
+            let anions = weighed / anion_weight;
+            if let Some(ions) = anions_of(generator, amounts, anions, fixed) {
                 return Some(ions);
             }
         }
@@ -117,10 +132,15 @@ fn balance_ions(generator: &mut Generator, tenths: u32, end: End, n: i128) -> Op
 pub const TENTH_CHARGES: i128 = ALKALINITY_CHARGE / AMOUNT_CHARGE;
 
 /// Draws sulphate and nitrate, then searches the chloride that leaves a whole
-/// number of tenths of µeq/L to alkalinity.
-fn anions_of(generator: &mut Generator, mut amounts: [u32; IONS], anions: i128) -> Option<Ions> {
-    for amount in &mut amounts[ANIONS] {
-        *amount = generator.below(60_000);
+/// number of tenths of µeq/L to alkalinity. A given chloride isn't kept.
+fn anions_of(
+    generator: &mut Generator,
+    mut amounts: [u32; IONS],
+    anions: i128,
+    fixed: &Fixed,
+) -> Option<Ions> {
+    for ion in ANIONS {
+        amounts[ion] = fixed[ion].unwrap_or_else(|| generator.below(60_000));
     }
     amounts[CHLORIDE] = 0;
     let rest = anions - charges(&amounts, ANIONS);
@@ -166,7 +186,7 @@ fn common_divisor(a: i128, b: i128) -> i128 {
 #[cfg(test)]
 mod tests {
     use super::*;
-    use crate::checks::{Inequality, IonBalance};
+    use crate::checks::IonBalance;
     use crate::record::Record;
 
     #[test]
@@ -179,7 +199,10 @@ mod tests {
                 let n = bound.last_up_to(hydrogen) + 1;
                 let bottle = bound.bottle(&mut generator, 500, n).expect("a bottle");
                 let record = Record::read(bottle.words()).expect("a record");
-                let span = IonBalance::of(&record).expect("all ions").span();
+                let span = IonBalance::of(&record)
+                    .expect("all ions")
+                    .spans()
+                    .with_every;
                 let found = match end {
                     End::Least => span.least,
                     End::Greatest => span.greatest,

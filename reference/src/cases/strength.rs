@@ -5,7 +5,7 @@
 use super::bottle::{plausible, Bottle};
 use super::conducting::tenths_at_edges;
 use super::generator::Generator;
-use super::solver::{split, Ions, TENTH_CHARGES};
+use super::solver::{split, Fixed, Ions, TENTH_CHARGES};
 use super::Cases;
 use crate::activity::thousandths_up_to;
 use crate::checks::{conductivity, plain_conductivity};
@@ -25,7 +25,7 @@ pub fn all(cases: &mut Cases) {
 }
 
 /// The bottle at each measured conductivity next to an edge.
-fn at_every_edge(cases: &mut Cases, bottle: &Bottle) {
+pub fn at_every_edge(cases: &mut Cases, bottle: &Bottle) {
     for tenths in tenths_at_edges(bottle) {
         cases.judge(&bottle.conductivity(tenths));
     }
@@ -67,7 +67,7 @@ fn squares(cases: &mut Cases) {
     for thousandths in [1, 2, 5, 10, 20, 35, 50, 75, 100, 125, 150, 170, 185] {
         for sum in sums_about(thousandths) {
             for ph in [600, 1_000, 555] {
-                if let Some(bottle) = bottle_weighing(&mut generator, ph, sum) {
+                if let Some(bottle) = bottle_weighing(&mut generator, ph, sum, &Fixed::default()) {
                     at_every_edge(cases, &bottle);
                 }
             }
@@ -77,10 +77,16 @@ fn squares(cases: &mut Cases) {
 
 /// A bottle whose sum of charges times valences is this many u, with hydrogen at
 /// its floor, or the last that is no more; nothing where the search gives up.
-fn bottle_weighing(generator: &mut Generator, ph: u32, sum: i128) -> Option<Bottle> {
+/// Some amounts may be given.
+pub fn bottle_weighing(
+    generator: &mut Generator,
+    ph: u32,
+    sum: i128,
+    fixed: &Fixed,
+) -> Option<Bottle> {
     let hydrogen = HYDROGEN_VALENCE * i128::from(Ph::new(ph).ok()?.floor());
     let rest = (sum - hydrogen).div_euclid(AMOUNT_CHARGE);
-    let ions = (0..20_000).find_map(|_| ions_weighing(generator, rest))?;
+    let ions = (0..20_000).find_map(|_| ions_weighing(generator, rest, fixed))?;
     Some(ions.bottle().ph(ph).kind(SOIL_WATER))
 }
 
@@ -94,9 +100,11 @@ fn alkalinity_weight(tenths: u32) -> i128 {
     ALKALINITY_VALENCE * TENTH_CHARGES * i128::from(tenths)
 }
 
-/// Draws all but chloride and alkalinity, then searches these two.
-fn ions_weighing(generator: &mut Generator, sum: i128) -> Option<Ions> {
-    let mut amounts = drawn_for(generator, sum);
+/// Draws all but chloride and alkalinity, then searches these two. A given
+/// chloride isn't kept.
+fn ions_weighing(generator: &mut Generator, sum: i128, fixed: &Fixed) -> Option<Ions> {
+    let drawn = drawn_for(generator, sum);
+    let mut amounts = std::array::from_fn(|ion| fixed[ion].unwrap_or(drawn[ion]));
     amounts[CHLORIDE] = 0;
     let drawn: i128 = (0..IONS).map(|ion| weight(ion, amounts[ion])).sum();
     let rest = sum - drawn;
@@ -213,10 +221,11 @@ mod tests {
     fn a_bottle_weighs_what_was_wanted() {
         let mut generator = Generator::new(9);
         for (ph, sum) in [(600, 2_000 * 30_000 * 30_000), (555, 60_000_000_000_000)] {
-            let bottle = bottle_weighing(&mut generator, ph, sum).expect("a bottle");
+            let bottle =
+                bottle_weighing(&mut generator, ph, sum, &Fixed::default()).expect("a bottle");
             let record = Record::read(bottle.words()).expect("a record");
             let check = Conductivity::of(&record).expect("all ions");
-            let found = check.weighed + i128::from(record.ph.floor());
+            let found = check.weighed.least + i128::from(record.ph.floor());
             assert!((0..AMOUNT_CHARGE).contains(&(sum - found)));
             assert!(ph != 600 || sum == found);
         }

@@ -1,15 +1,18 @@
 //! Conductivity: the plain sum of document 01, and the check of document 02 (v)
-//! that corrects it for ionic strength.
+//! that corrects it for ionic strength, where below readings are ranges (02 (vi)).
 
+use super::spans::decide;
 use super::{Fraction, Inequality, Span, Verdict};
 use crate::activity::{weighed_with, weighed_without_hydrogen, Bracket};
 use crate::ions::{alkalinity_charge, charge, ALKALINITY_CONDUCTANCE, HYDROGEN_CONDUCTANCE, TABLE};
 use crate::numbers::{CONDUCTIVITY_TENTH, IONS, SQUARE_UNIT};
+use crate::ranges::Ends;
 use crate::record::Record;
 
-/// Document 01's inequality, of the plain sum: "01's cases 13 to 16 stay proved
-/// of" it. "Within: 100 times the difference of CE and CM, its sign dropped, is
-/// at most M × CM, both in the same unit", which is 10^−13 µS/cm.
+/// Document 01's inequality, of the plain sum with one choice of all amounts:
+/// "01's cases 13 to 16 stay proved of" it. "Within: 100 times the difference of
+/// CE and CM, its sign dropped, is at most M × CM, both in the same unit", which
+/// is 10^−13 µS/cm.
 #[derive(Clone, Copy, Debug)]
 pub struct PlainConductivity {
     /// The sum without the part of hydrogen.
@@ -21,16 +24,14 @@ pub struct PlainConductivity {
 }
 
 impl PlainConductivity {
-    /// Nothing where one of the eight ions is missing.
-    pub fn of(record: &Record) -> Option<PlainConductivity> {
-        let amounts = record.ion_amounts()?;
+    pub fn with(record: &Record, amounts: &[u32; IONS]) -> PlainConductivity {
         let part_of = |ion: usize| TABLE[ion].conductance * charge(ion, amounts[ion]);
         let alkalinity = ALKALINITY_CONDUCTANCE * alkalinity_charge(record.alkalinity);
-        Some(PlainConductivity {
+        PlainConductivity {
             others: alkalinity + (0..IONS).map(part_of).sum::<i128>(),
             measured: i128::from(record.conductivity) * CONDUCTIVITY_TENTH,
             limit: conductivity_limit(record.conductivity),
-        })
+        }
     }
 
     /// "The sum over all ten rows" with so many u of hydrogen.
@@ -70,11 +71,12 @@ impl Inequality for PlainConductivity {
     }
 }
 
-/// Document 01's check, before 02 (v).
+/// Document 01's check, before 02 (v) and (vi): a below reading counts as half
+/// its limit.
 pub fn plain_conductivity(record: &Record) -> Verdict {
-    match PlainConductivity::of(record) {
+    match record.ion_amounts() {
         None => Verdict::ReadingMissing,
-        Some(inequality) => super::decide(record.ph, &inequality),
+        Some(amounts) => decide(record.ph, &PlainConductivity::with(record, &amounts)),
     }
 }
 
@@ -88,44 +90,63 @@ pub struct Calculated {
     pub least: i128,
     pub greatest: i128,
     /// Whether CE may be the least and the greatest itself: y² reaches both ends
-    /// of its bracket, hydrogen h and h + 1 only where it is h exactly.
+    /// of its bracket and amounts those of their ranges, hydrogen h and h + 1
+    /// only where it is h exactly.
     pub ends_are_reached: bool,
 }
 
 /// "By source document 001 (chapter 4) CE = y² × the plain sum."
 #[derive(Clone, Copy, Debug)]
 pub struct Conductivity {
-    pub plain: PlainConductivity,
-    /// What the strength sums up without hydrogen, in u.
-    pub weighed: i128,
+    /// With the least amount of every reading, and with the greatest of every one.
+    pub plain: Ends<PlainConductivity>,
+    /// What the strength sums up without hydrogen, in u, with the same: "The
+    /// least ionic strength takes each such reading at 0, the greatest at its
+    /// limit" (02 (vi)).
+    pub weighed: Ends<i128>,
 }
 
 impl Conductivity {
     /// Nothing where one of the eight ions is missing.
     pub fn of(record: &Record) -> Option<Conductivity> {
-        Some(Conductivity {
-            plain: PlainConductivity::of(record)?,
-            weighed: weighed_without_hydrogen(&record.ion_amounts()?, record.alkalinity),
-        })
+        let ions = record.ion_ranges()?;
+        Some(Conductivity::with(record, ions))
+    }
+
+    /// With these ranges of the eight ions.
+    pub fn with(record: &Record, ions: Ends<[u32; IONS]>) -> Conductivity {
+        Conductivity {
+            plain: ions.both(|ions| PlainConductivity::with(record, &ions)),
+            weighed: ions.both(|ions| weighed_without_hydrogen(&ions, record.alkalinity)),
+        }
     }
 
     /// "I is least with hydrogen at h and greatest at h + 1 (h for both where
-    /// exact)."
+    /// exact)", "giving one bracket for y²" (02 (vi)).
     pub fn bracket(&self, h: i128, is_whole: bool) -> Bracket {
-        let (least, greatest) = ends_of_hydrogen(h, is_whole);
+        let hydrogen = ends_of_hydrogen(h, is_whole);
         Bracket::of(
-            weighed_with(least, self.weighed),
-            weighed_with(greatest, self.weighed),
+            weighed_with(hydrogen.least, self.weighed.least),
+            weighed_with(hydrogen.greatest, self.weighed.greatest),
         )
     }
 
-    /// y² is chosen apart from hydrogen, and neither y² nor the plain sum is
-    /// negative: the least product is that of the least of both.
+    /// The plain sum with the least of everything and with the greatest.
+    pub fn sums(&self, h: i128, is_whole: bool) -> Ends<i128> {
+        let hydrogen = ends_of_hydrogen(h, is_whole);
+        Ends {
+            least: self.plain.least.sum_at(hydrogen.least),
+            greatest: self.plain.greatest.sum_at(hydrogen.greatest),
+        }
+    }
+
+    /// y² is chosen apart from hydrogen and from the amounts, and neither y² nor
+    /// the plain sum is negative: the least product is that of the least of both.
     pub fn calculated(&self, bracket: Bracket, h: i128, is_whole: bool) -> Calculated {
-        let (least, greatest) = ends_of_hydrogen(h, is_whole);
+        let sums = self.sums(h, is_whole);
         Calculated {
-            least: bracket.least * self.plain.sum_at(least),
-            greatest: bracket.greatest * self.plain.sum_at(greatest),
+            least: bracket.least * sums.least,
+            greatest: bracket.greatest * sums.greatest,
             ends_are_reached: is_whole,
         }
     }
@@ -141,13 +162,14 @@ impl Conductivity {
     pub fn limits(&self) -> (i128, i128) {
         let PlainConductivity {
             measured, limit, ..
-        } = self.plain;
+        } = self.plain.least;
         let limit_at = |percent: i128| percent * measured * SQUARE_UNIT;
         (limit_at(100 - limit), limit_at(100 + limit))
     }
 
-    /// "Within: the inequality holds for every hydrogen of 01's rule with every
-    /// y² in its bracket; outside: for none; else undecided, also at whole pH."
+    /// "Within means that the inequality holds for every choice of these values,
+    /// of hydrogen and of y²; outside means for none; else undecided, at whole pH
+    /// too" (02 (vi)).
     /// Every fraction between the least CE and the greatest is one of these
     /// products: it holds for all of them where neither end is beyond a limit,
     /// and for none where the limits are beyond an end. An end that isn't
@@ -161,18 +183,17 @@ impl Conductivity {
         } else {
             greatest <= from || to <= least
         };
-        match (every, none) {
-            (true, _) => Verdict::Within,
-            (_, true) => Verdict::Outside,
-            _ => Verdict::Undecided,
-        }
+        Verdict::of_choices(every, none)
     }
 }
 
 /// Between which whole numbers hydrogen lies: "Where p is a multiple of 100, H
 /// is h exactly. Otherwise H lies strictly between h and h + 1."
-fn ends_of_hydrogen(h: i128, is_whole: bool) -> (i128, i128) {
-    (h, if is_whole { h } else { h + 1 })
+pub fn ends_of_hydrogen(h: i128, is_whole: bool) -> Ends<i128> {
+    Ends {
+        least: h,
+        greatest: if is_whole { h } else { h + 1 },
+    }
 }
 
 /// Conductivity. "All kinds. Needs the eight ions."

@@ -1,10 +1,12 @@
+mod choices;
+mod ranges;
+mod truth;
+
 use super::*;
-use crate::activity::Bracket;
-use crate::cases::bottle::{plausible, Bottle};
-use crate::cases::conducting::tenths_at_edges;
-use crate::cases::generator::Generator;
+use crate::cases::bottle::Bottle;
 use crate::numbers::{
-    BALANCE_CHECK, CONDUCTIVITY_CHECK, CONDUCTIVITY_TENTH, RATIO_CHECK, SQUARE_UNIT,
+    BALANCE_CHECK, CARBON_LINE, CHLORIDE, CONDUCTIVITY_CHECK, NITRATE, ORGANIC_CARBON, RATIO_CHECK,
+    RUNOFF, SODIUM, TOTAL_NITROGEN,
 };
 
 fn record(bottle: &Bottle) -> Record {
@@ -133,38 +135,6 @@ fn end_points_of_a_span() {
     }
 }
 
-fn holds_at_true_hydrogen(ph: Ph, inequality: &impl Inequality) -> bool {
-    let Span { least, greatest } = inequality.span();
-    ph.hydrogen_is_at_least(least.numerator, least.denominator.unsigned_abs())
-        && ph.hydrogen_is_at_most(greatest.numerator, greatest.denominator.unsigned_abs())
-}
-
-fn assert_true_of_hydrogen(ph: Ph, verdict: Verdict, inequality: &impl Inequality) {
-    let h = i128::from(ph.floor());
-    match verdict {
-        Verdict::Within => assert!(holds_at_true_hydrogen(ph, inequality)),
-        Verdict::Outside => assert!(!holds_at_true_hydrogen(ph, inequality)),
-        _ => assert!(!ph.has_whole_hydrogen()),
-    }
-    let Span { least, greatest } = inequality.span();
-    let in_span = least.is_at_most(h) && greatest.is_at_least(h);
-    assert_eq!(inequality.holds_at(h), in_span);
-}
-
-#[test]
-fn verdicts_are_true_of_hydrogen_and_spans_of_inequalities() {
-    let mut generator = Generator::new(11);
-    for _ in 0..2_000 {
-        let record = record(&plausible(&mut generator));
-        if let (Some(balance), Some(plain)) =
-            (IonBalance::of(&record), PlainConductivity::of(&record))
-        {
-            assert_true_of_hydrogen(record.ph, decide(record.ph, &balance), &balance);
-            assert_true_of_hydrogen(record.ph, decide(record.ph, &plain), &plain);
-        }
-    }
-}
-
 /// The printed sample's calculated conductivity is about 15.1 µS/cm: 12.6 lies
 /// within a fifth of some of its bracket, 18.9 too.
 #[test]
@@ -201,73 +171,6 @@ fn calculated_conductivity_on_a_limit() {
         assert_eq!(judge(from - 9, from, reached), on_the_limit);
         assert_eq!(judge(to, to + 9, reached), on_the_limit);
     }
-}
-
-/// Document 01's inequality with CE = y² × the plain sum, where hydrogen is a
-/// fraction of u and 10^9 y² a whole number.
-fn holds(record: &Record, hydrogen: Fraction, square: i128) -> bool {
-    let check = Conductivity::of(record).expect("all ions");
-    let others = check.plain.sum_at(0);
-    let by_hydrogen = check.plain.sum_at(1) - others;
-    let sum = by_hydrogen * hydrogen.numerator + others * hydrogen.denominator;
-    let tenths = i128::from(record.conductivity);
-    let measured = tenths * CONDUCTIVITY_TENTH * SQUARE_UNIT * hydrogen.denominator;
-    100 * (square * sum - measured).abs() <= conductivity_limit(record.conductivity) * measured
-}
-
-/// "The inequality holds for every hydrogen of 01's rule with every y² in its
-/// bracket; outside: for none; else undecided": by trial, from next to one end of
-/// hydrogen to next to the other and from one end of the bracket to the other.
-#[test]
-fn conductivity_is_that_of_every_choice() {
-    let mut generator = Generator::new(12);
-    let mut times = [0; 5];
-    for _ in 0..400 {
-        let bottle = plausible(&mut generator);
-        for tenths in tenths_at_edges(&bottle) {
-            let record = record(&bottle.conductivity(tenths));
-            let verdict = conductivity(&record);
-            let choices = choices(&record);
-            let every = choices
-                .iter()
-                .all(|&(hydrogen, square)| holds(&record, hydrogen, square));
-            let none = !choices
-                .iter()
-                .any(|&(hydrogen, square)| holds(&record, hydrogen, square));
-            let due = match (every, none) {
-                (true, _) => Verdict::Within,
-                (_, true) => Verdict::Outside,
-                _ => Verdict::Undecided,
-            };
-            assert_eq!(verdict, due, "{record:?}");
-            times[verdict.number() as usize] += 1;
-        }
-    }
-    assert!(times[1..=3].iter().all(|&times| times > 200), "{times:?}");
-}
-
-/// Hydrogen, a millionth of u from its ends where these aren't reached, and y².
-fn choices(record: &Record) -> Vec<(Fraction, i128)> {
-    let (h, is_whole) = (
-        i128::from(record.ph.floor()),
-        record.ph.has_whole_hydrogen(),
-    );
-    let denominator = 1_000_000;
-    let parts = if is_whole {
-        vec![0]
-    } else {
-        vec![1, denominator / 2, denominator - 1]
-    };
-    let check = Conductivity::of(record).expect("all ions");
-    let Bracket { least, greatest } = check.bracket(h, is_whole);
-    let squares = [least, (least + greatest) / 2, greatest];
-    let hydrogen = parts.into_iter().map(|part| Fraction {
-        numerator: h * denominator + part,
-        denominator,
-    });
-    hydrogen
-        .flat_map(|hydrogen| squares.map(|square| (hydrogen, square)))
-        .collect()
 }
 
 /// Row 20 of the manual's sheet: within by the plain sum, and published as
