@@ -65,8 +65,8 @@ conductivityVerdict s = conductivityOver conductivityCheck s (rangesOf s)
 abbrev pub strengthOf : ℕ → Choice → ℕ
 strengthOf t c = hydrogenChargeNumber * c .hydrogen + (alkalinityChargeNumber * alkalinityCharge t * c .divisor + sum (λ i. strengthAdded i * c .amount i) readings)
 
--- ---- document 01's check, without y²: '01's cases 13 to 16 stay proved of the plain sum'. It goes over the ranges of (vi) as every check does;
--- the readings of these cases are all measured
+-- ---- document 01's check, without y²: '01's cases 13 to 16 stay proved of the plain sum'. It goes over the ranges of (vi) as every check
+-- does; the readings of these cases are all measured
 -- '100 times the difference of CE and CM, its sign dropped, is at most M × CM', CE the plain sum
 pub record PlainConducting (M t CM : ℕ) (c : Choice) : Type 0 where
   pub holds : percent * apart (plainSum t c) (CM * c .divisor) ≤ M * (CM * c .divisor)

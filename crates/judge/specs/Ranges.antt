@@ -1,5 +1,5 @@
--- Document 02 (v) and (vi), what a record leaves open: each reading by its range, hydrogen as its floor or strictly between it and the next whole number, and y² by
--- its bracket.
+-- Document 02 (v) and (vi), what a record leaves open: each reading by its range, hydrogen as its floor or strictly between it and the next
+-- whole number, and y² by its bracket.
 use mathlib.Core.List.{List}
 use Prim.Native.Nat.{ℕ}
 use Rattle.activity.specs.Brackets.{unit, lowerEnd, upperEnd}

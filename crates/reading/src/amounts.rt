@@ -9,8 +9,8 @@ ghost use Rattle.reading.specs.Analytes.{analyteOf};
 
 // Document 01's forms: 'The enum for a reading has cases holding f32; conversion and verdicts match on it', and for half a
 // limit 'f32 multiplication with the stated exact case, then bits taken apart to whole µg/L', to tenths of one since document
-// 02 (i). Every amount is made here, that of a record's reading and that of a reading made by hand; the range is tested
-// before, once.
+// 02 (i). Every amount is made here, that of a record's reading and that of a reading made by hand, and beside it that of the
+// limit itself, which the checks need since (vi); the range is tested before, once.
 pub fn of_reading(reading: Reading) -> Analyte
     requires { ⌜ InRange reading ⌝ }
     ensures { λ r. ⌜ r ≡ analyteOf reading ⌝ }

@@ -1,6 +1,6 @@
-// Readings of the analyser (document 01, 'A reading', and 02 (i) and (vi)): made from a value and its quantification limit, or from the
-// two words of a record; written back as words; and converted to an amount in
-// tenths of a µg/L, or to the range of amounts that a check takes it for.
+// Readings of the analyser (document 01, 'A reading', and 02 (i) and (vi)): made from a value and its quantification limit,
+// or from the two words of a record; written back as words; and converted to an amount in tenths of a µg/L, and to the range
+// of amounts that a check takes it for.
 mod amounts;
 mod marks;
 mod ranges;
@@ -39,7 +39,8 @@ pub struct Words {
 // A mass concentration in tenths of a µg/L, held apart from charge and conductivity by its type.
 pub struct Mass(pub u64);
 
-// A reading of a record with its amount, 0 where it is missing, and the amount of the limit that it is below, 0 where it has none.
+// A reading of a record with its amount, 0 where it is missing, and the amount of the limit that it is below, 0 where it is
+// below none.
 pub struct Analyte {
     pub reading: Reading,
     pub mass: Mass,

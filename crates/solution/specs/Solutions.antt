@@ -1,5 +1,5 @@
--- Document 01, 'Charge and conductance' and 'The four checks', and document 02 (v) and (vi): what a record holds in solution, as the sums that the
--- checks compare and the ionic strength.
+-- Document 01, 'Charge and conductance' and 'The four checks', and document 02 (v) and (vi): what a record holds in solution, as the sums that
+-- the checks compare and the ionic strength.
 use mathlib.Core.Bool.{Bool, cond}
 use mathlib.Core.List.{List}
 use Prim.Native.Nat.{ℕ, _+_, _*_, _^_}

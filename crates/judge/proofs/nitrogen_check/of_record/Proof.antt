@@ -15,11 +15,7 @@ returns-3 : tie.Need-returns-3
 returns-3 c = let nitrate = c .before .before .before in
     no-ammonium _ _ _ _ (nitrate .before .before .match .keys2) (nitrate .match2 .keys2) (c .enum-told3 .given .1)
 
-decide-requires : tie.Need-decide-requires
-decide-requires c κs = let made = c .before in
-    let nitrate = made .before .before .before .before in
-    nitrogen-handed _ (nitrate .before .before .before .before .pre) (c .window .ensures) (made .before .of-masses .ensures) (made .of-masses2 .ensures)
-
+-- before what its call requires, so that a wrong answer is told first
 returns-4 : tie.Need-returns-4
 returns-4 c = let window = c .before in
     let made = window .before in
@@ -27,6 +23,11 @@ returns-4 c = let window = c .before in
     let nitrate = ammonium .before .before in
     nitrogen-decided _ _ _ _ (nitrate .before .before .match .keys2) (nitrate .match2 .keys2) (ammonium .match3 .keys2)
     (rw (window .window .ensures, made .of-masses2 .ensures, made .before .of-masses .ensures) at (c .decide .ensures))
+
+decide-requires : tie.Need-decide-requires
+decide-requires c κs = let made = c .before in
+    let nitrate = made .before .before .before .before in
+    nitrogen-handed _ (nitrate .before .before .before .before .pre) (c .window .ensures) (made .before .of-masses .ensures) (made .of-masses2 .ensures)
 
 pub of-record-spec : {M : Type 1} → statement M
 of-record-spec =

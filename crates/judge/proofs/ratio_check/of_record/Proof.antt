@@ -24,11 +24,7 @@ returns-4 c = let some = c .before .before .before in
     no-sodium _ _ _ _ (le-leb _ _ (there .before .before .if1 .left)) (there .match .keys2) (least-is (range .range .ensures .0) (ne-eqb _ _ (some .if2 .left)))
     (c .enum-told2 .given .1)
 
-decide-requires : tie.Need-decide-requires
-decide-requires c κs = let made = c .before in
-    let range = made .before .before .before .before .before .before in
-    ratio-handed _ (range .before .before .before .before .pre) (c .window .ensures) (made .before .of-charges .ensures) (made .of-charges2 .ensures)
-
+-- before what its call requires, so that a wrong answer is told first
 returns-5 : tie.Need-returns-5
 returns-5 c = let window = c .before in
     let made = window .before in
@@ -38,6 +34,11 @@ returns-5 c = let window = c .before in
     let there = range .before in
     ratio-decided _ _ _ _ (le-leb _ _ (there .before .before .if1 .left)) (there .match .keys2) (least-is (range .range .ensures .0) (ne-eqb _ _ (some .if2 .left)))
     (both .match2 .keys2) (rw (window .window .ensures, made .of-charges2 .ensures, made .before .of-charges .ensures) at (c .decide .ensures))
+
+decide-requires : tie.Need-decide-requires
+decide-requires c κs = let made = c .before in
+    let range = made .before .before .before .before .before .before in
+    ratio-handed _ (range .before .before .before .before .pre) (c .window .ensures) (made .before .of-charges .ensures) (made .of-charges2 .ensures)
 
 pub of-record-spec : {M : Type 1} → statement M
 of-record-spec =

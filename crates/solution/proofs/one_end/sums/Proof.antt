@@ -4,13 +4,7 @@ use borrow.Author.Needs.{needs}
 use Rattle.solution.proofs.one_end.sums.Statement.{statement}
 use Rattle.solution.proofs.one_end.sums.Tie as tie
 
-plus-requires-2 : tie.Need-plus-requires-2
-plus-requires-2 c κs =
-    let eight = c .before in
-    let alkalinity = eight .before in
-    let start = alkalinity .before .before .before .before .before in
-    anions-fit _ (start .args .greatest) _ (start .pre) (eight .sums-of .ensures) (alkalinity .alkalinity-charge .ensures)
-
+-- before what the calls require, so that a wrong sum is told first
 returns : tie.Need-returns
 returns c =
     let ions = c .before in
@@ -25,6 +19,13 @@ returns c =
     let start = ratio .before .before in
     made _ (start .args .greatest) _ (start .pre) (eight .sums-of .ensures) (alkalinity .alkalinity-charge .ensures) (cations .plus .ensures) (anions .plus2 .ensures)
     (calculated .calculated .ensures) (measured .measured-conductivity .ensures) (ions .strength-of .ensures) (c .strength-of2 .ensures) (ratio .sodium-chloride .ensures) (nitrogen .nitrogen .ensures)
+
+plus-requires-2 : tie.Need-plus-requires-2
+plus-requires-2 c κs =
+    let eight = c .before in
+    let alkalinity = eight .before in
+    let start = alkalinity .before .before .before .before .before in
+    anions-fit _ (start .args .greatest) _ (start .pre) (eight .sums-of .ensures) (alkalinity .alkalinity-charge .ensures)
 
 pub sums-spec : {M : Type 1} → statement M
 sums-spec =
