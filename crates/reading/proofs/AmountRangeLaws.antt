@@ -1,9 +1,8 @@
 -- The range of a reading's amounts: all that `solution` and `judge` know of it.
 use mathlib.Core.Path.{_≡_, refl, sym}
 use mathlib.Core.Bool.{Bool, true, false}
-use Prim.Native.Nat.{ℕ, _*_, _≤_, _<_}
-use native.Mathlib.Nat.{mul-pos, mul-le-mul-right}
-use native.Mathlib.Decide.{decLt}
+use Prim.Native.Nat.{_*_, _≤_}
+use native.Mathlib.Nat.{mul-pos}
 use native.Mathlib.Omega.{arith}
 use lib.Dec.{lit≤, lit<}
 use lib.Ieee.{Float}
@@ -14,9 +13,10 @@ use Rattle.reading.specs.declared.Reading.{Reading}
 use Rattle.reading.specs.declared.Reading.the-variants.{Missing, Measured, Below}
 use Rattle.reading.specs.declared.Analyte.{Analyte}
 use Rattle.reading.specs.Ranges.{isLimit}
-use Rattle.reading.specs.Amounts.{mostMass, nearest, perMilligram, Amount, valueMass, halfMass, amountOf}
+use Rattle.reading.specs.Amounts.{mostMass, perMilligram, Amount, valueMass, halfMass, amountOf}
 use Rattle.reading.specs.Analytes.{massIn, massOf, analyteOf, rangeFrom, rangeOf, Has, AmountRangeLaws}
 use Rattle.reading.proofs.RangeLaws.{limit-value}
+use Rattle.reading.proofs.NearestLaws.{nearest-rises}
 use Rattle.reading.proofs.AmountProofs.{amount-laws}
 use Rattle.reading.proofs.AnalyteLaws.{measured-mass, below-mass, none-below}
 
@@ -48,27 +48,14 @@ range-most (Measured x) = mass-most (Measured x)
 range-most (Below x) = omega (arith, mass-most (Below x), mass-most (Measured x))
 
 -- the half of a limit has no greater amount than the limit: both are rounded to the nearest
-nearest-half : (n d : ℕ) → 0 < d → nearest n (2 * d) ≤ nearest n d
-nearest-half n d some = go (decLt (nearest n d) (nearest n (2 * d)))
-  where
-    go : Dec (nearest n d < nearest n (2 * d)) → nearest n (2 * d) ≤ nearest n d
-    go (yes l) =
-        absurd (
-        omega (
-          arith,
-          mul-le-mul-right (2 * d) l,
-          amount-laws .rounded n d some .under,
-          amount-laws .rounded n (2 * d) (mul-pos (lit< tt) some) .over,
-        )
-        )
-    go (no f) = omega (arith, f)
-
 half-under-limit : (x : Float) → massOf (Below x) ≤ massOf (Measured x)
 unfolding halfMass valueMass
 half-under-limit x = go (isLimit x) refl
   where
     go : (b : Bool) → isLimit x ≡ b → massOf (Below x) ≤ massOf (Measured x)
-    go true h = rw (sym (below-mass x h), sym (measured-mass x (limit-value x h))) (nearest-half (perMilligram * num x) (den x) (den-pos x))
+    go true h =
+        rw (sym (below-mass x h), sym (measured-mass x (limit-value x h)))
+        (nearest-rises (perMilligram * num x) (2 * den x) (perMilligram * num x) (den x) (mul-pos (lit< tt) (den-pos x)) (den-pos x) (omega arith))
     go false h = rw (sym (none-below x h)) (omega arith)
 
 own : (r : Reading) → Has (rangeOf (analyteOf r)) (massOf r)

@@ -1,8 +1,9 @@
--- For the judge: the sums of fields are those of the record that they were read from, and no sums of any fields or record are large.
+-- For the judge: the sums of fields are those of the record that they were read from, no sums of any fields or record are large, and sums rise
+-- with what is summed.
 use mathlib.Core.Path.{_≡_, ap, ap₂, sym, _∙_}
 use mathlib.Core.Bool.{Bool, true, false}
 use mathlib.Core.List.{List}
-use Prim.Native.Nat.{ℕ, _+_, _*_}
+use Prim.Native.Nat.{ℕ, _+_, _*_, _≤_, _<_}
 use native.Mathlib.Nat.{le-refl}
 use native.Mathlib.Omega.{arith}
 use Rattle.hydrogen.specs.Floors.{isWhole, floorAt}
@@ -11,17 +12,21 @@ use Rattle.reading.specs.Amounts.{mostMass}
 use Rattle.reading.specs.Analytes.{analyteOf}
 use Rattle.reading.proofs.AmountRangeLaws.{range-ordered, range-most}
 use Rattle.record.specs.declared.TestedRecord.{TestedRecord}
-use Rattle.record.specs.Record.{ammonium, sodium, nitrate, chloride, totalNitrogen, mostConductivity, mostAlkalinity, phOf, conductivityOf, alkalinityOf, readingAt}
+use Rattle.record.specs.Record.{readings, ammonium, sodium, nitrate, chloride, totalNitrogen, mostConductivity, mostAlkalinity, phOf, conductivityOf, alkalinityOf, readingAt}
 use Rattle.record.specs.Tested.{Fields, Holds, fieldsIn}
 use Rattle.record.proofs.AcceptedLaws.{Valid}
 use Rattle.solution.specs.Ions.{cationCharge, anionCharge, conducted, strengthAdded, alkalinityCharge, alkalinityChargeNumber, hydrogenConductance, hydrogenChargeNumber}
 use Rattle.solution.specs.Solutions.{rangeAt, leastAt, greatestAt, gap, alkalinityConducts, measuredOf, sumsWith, sumRangesOf}
 use Rattle.solution.specs.ByValue.{endOf, sumsHeld, sumRangesHeld, sumRangesBy}
-use Rattle.solution.specs.Steps.{mostHydrogen, Ranged, Bounded}
+use Rattle.solution.specs.Steps.{mostHydrogen, AtMost, Ranged, Bounded}
 use Rattle.solution.proofs.HeldLaws.{held-known, held-sum, held-end, held-small}
 use Rattle.solution.proofs.RangeLaws.{in-ranges, ranges-held}
 use Rattle.solution.proofs.SameLaws.{same-sums, same-ranges}
 use Rattle.solution.proofs.BoundLaws as bounds
+
+-- greater amounts, hydrogen and fields have greater sums
+pub sums-rise : (a b : ℕ → ℕ) → ((i : ℕ) → i < readings → a i ≤ b i) → (h k t u m n : ℕ) → h ≤ k → t ≤ u → m ≤ n → AtMost (sumsWith a h t m) (sumsWith b k u n)
+sums-rise a b rise = bounds.sums-rise a b rise
 
 -- of any fields
 pub ranges-bounded : (f : Fields) (floor : ℕ) → Bounded (sumRangesBy f floor)
