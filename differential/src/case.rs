@@ -34,6 +34,8 @@ pub struct Run<'a> {
     pub library: &'a dyn Library,
     pub generator: Generator,
     pub cases: u64,
+    /// What else there is to be told of a run without a mismatch, line by line.
+    pub notes: Vec<String>,
 }
 
 impl<'a> Run<'a> {
@@ -42,6 +44,7 @@ impl<'a> Run<'a> {
             library,
             generator,
             cases: 0,
+            notes: Vec::new(),
         }
     }
 

@@ -9,9 +9,10 @@ mod halves;
 mod joins;
 mod list;
 mod numbers;
+mod overturning;
 mod ranges;
 
-pub use list::{Fault, CORRECTION, FAULTS, OTHER_RANGES};
+pub use list::{Fault, CORRECTION, FAULTS, OTHER_RANGES, OVERTURNING};
 
 use crate::answers;
 use crate::library::Library;
@@ -181,7 +182,9 @@ fn distort(fault: Fault, record: &Record, verdicts: &mut [u32]) {
             judge_by_another_floor(fault, record, verdicts);
         }
         _ if CORRECTION.contains(&fault) => judge_by_another_correction(fault, record, verdicts),
-        _ if OTHER_RANGES.contains(&fault) => judge_by_other_ranges(fault, record, verdicts),
+        _ if OTHER_RANGES.contains(&fault) || OVERTURNING.contains(&fault) => {
+            judge_by_other_ranges(fault, record, verdicts);
+        }
         _ => {}
     }
 }

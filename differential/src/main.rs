@@ -1,5 +1,5 @@
 //! The proved library against the other implementation of document 01, with
-//! requests (i) to (vi) of document 02.
+//! requests (i) to (vii) of document 02.
 
 mod answers;
 mod batches;
@@ -12,6 +12,7 @@ mod case;
 mod charts;
 #[cfg(feature = "stand-in")]
 mod faults;
+mod finer;
 mod floats;
 mod ions;
 mod joins;
@@ -45,7 +46,7 @@ use std::time::{SystemTime, UNIX_EPOCH};
 const USAGE: &str = "\
 usage: differential [--parts NAME,NAME,..] [SEED]
        differential --faults [SEED]   (in the build with the feature stand-in)
-parts: records, readings, offers, charts, batches, joins, validation";
+parts: records, readings, offers, charts, batches, joins, finer, validation";
 
 /// What the command line asks for.
 struct Request {
@@ -106,6 +107,9 @@ fn seed_from_the_clock() -> u32 {
 fn compare(part: &Part, seed: u32) -> bool {
     let report = part.run(&Asked, seed);
     println!("{}", line(part.name, &report));
+    for note in &report.notes {
+        println!("  {note}");
+    }
     if let Some(mismatch) = &report.mismatch {
         print_mismatch(mismatch);
         println!("seed:      {seed}");

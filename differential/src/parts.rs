@@ -1,8 +1,8 @@
-//! The seven parts, and a part's run from a seed.
+//! The eight parts, and a part's run from a seed.
 
 use crate::case::{Mismatch, Run};
 use crate::library::Library;
-use crate::{batches, charts, joins, offers, readings, records, validation};
+use crate::{batches, charts, finer, joins, offers, readings, records, validation};
 use reference::cases::generator::Generator;
 use std::time::{Duration, Instant};
 
@@ -15,6 +15,7 @@ pub struct Part {
 pub struct Report {
     pub cases: u64,
     pub time: Duration,
+    pub notes: Vec<String>,
     pub mismatch: Option<Mismatch>,
 }
 
@@ -22,13 +23,14 @@ const fn named(name: &'static str, run: fn(&mut Run) -> Result<(), Mismatch>) ->
     Part { name, run }
 }
 
-pub const PARTS: [Part; 7] = [
+pub const PARTS: [Part; 8] = [
     named("records", records::run),
     named("readings", readings::run),
     named("offers", offers::run),
     named("charts", charts::run),
     named("batches", batches::run),
     named("joins", joins::run),
+    named("finer", finer::run),
     named("validation", validation::run),
 ];
 
@@ -48,6 +50,7 @@ impl Part {
         Report {
             cases: run.cases,
             time: start.elapsed(),
+            notes: run.notes,
             mismatch,
         }
     }

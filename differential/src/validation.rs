@@ -1,4 +1,4 @@
-//! Part 7: the manual's own example sheet, judged row by row.
+//! Part 8: the manual's own example sheet, judged row by row.
 
 use crate::canary::Lent;
 use crate::case::{Case, Difference, Mismatch, Run};

@@ -1,5 +1,5 @@
 //! The water analysis judge a second time, written from documents 01 and 02 (i)
-//! to (vi) and the settled readings of their open points alone.
+//! to (vii) and the settled readings of their open points alone.
 //!
 //! The modules follow the sections of document 01. Every algorithm is the most
 //! literal one: whole numbers and exact fractions, nothing tabulated beyond
@@ -12,6 +12,7 @@ pub mod big;
 pub mod charts;
 pub mod checks;
 pub mod docket;
+pub mod finer;
 pub mod hydrogen;
 pub mod ions;
 pub mod join;

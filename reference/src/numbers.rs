@@ -1,6 +1,6 @@
 //! The numbers of documents 01 and 02 (i), (ii), (v) and (vi) in one place: where
-//! words stand, how many there are and how far values reach; 02 (iii) and (iv)
-//! bring no new ones. What follows from others is worked out from them. A
+//! words stand, how many there are and how far values reach; 02 (iii), (iv) and
+//! (vii) bring no new ones. What follows from others is worked out from them. A
 //! comment quotes document 01 unless it names a request of 02.
 
 use std::ops::RangeInclusive;

@@ -40,8 +40,13 @@ impl Range {
         }
     }
 
+    /// "Both included."
+    pub fn contains(self, amount: u32) -> bool {
+        (self.least..=self.greatest).contains(&amount)
+    }
+
     /// No amount is negative: a range that contains 0 begins there.
     pub fn contains_none(self) -> bool {
-        self.least == 0
+        self.contains(0)
     }
 }

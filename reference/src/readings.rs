@@ -94,7 +94,8 @@ impl Float {
         self.bits
     }
 
-    fn is_less_than(self, other: Float) -> bool {
+    /// By the exact values.
+    pub fn is_less_than(self, other: Float) -> bool {
         self.value.compare(other.value) == Ordering::Less
     }
 }

@@ -1,4 +1,4 @@
--- What the fields of a record hand to the checks gives the record's own verdicts, and these are true.
+-- What the fields of a record hand to the checks gives the record's own verdicts, and these are true and survive finer readings.
 use mathlib.Core.Path.{_≡_, refl, sym, ap, subst, _∙_}
 use mathlib.Core.Bool.{false}
 use mathlib.Core.List.{List}
@@ -25,8 +25,10 @@ use Rattle.judge.specs.Ratios.{sodiumChlorideOf, nitrogenOf}
 use Rattle.judge.specs.Judgements.{Four, verdictsOf, judgementOf}
 use Rattle.judge.specs.ByValue.{balanceIn, conductivityIn, ratioIn, nitrogenIn, verdictsIn, judgedOf}
 use Rattle.judge.specs.Truth.{Truth}
+use Rattle.judge.specs.Finer.{SurvivesFiner}
 use Rattle.judge.proofs.HandedLaws.{balance-corners, conductivity-corners, ratio-corners, nitrogen-corners}
 use Rattle.judge.proofs.TruthProofs.{truth}
+use Rattle.judge.proofs.FinerProofs.{survives}
 use Rattle.judge.proofs.AnswerWays.{is-judged, is-refused}
 
 module _ (s : List ℕ) where
@@ -87,6 +89,15 @@ module _ (s : List ℕ) where
       let g = accepted-given s (given (verdictsOf s)) v e in
       let is : verdictsOf s ≡ v = cc (g .1) in
       subst (Truth s) is (truth s (g .0))
+
+  pub told-finer : (v : Four) → judgementOf s ≡ given v → SurvivesFiner s v
+  unfolding judgementOf
+  told-finer v e new w f e′ =
+      let g = accepted-given s (given (verdictsOf s)) v e in
+      let g′ = accepted-given new (given (verdictsOf new)) w e′ in
+      let is : verdictsOf s ≡ v = cc (g .1) in
+      let is′ : verdictsOf new ≡ w = cc (g′ .1) in
+      rw (← is, ← is′) (survives s new f (g .0) (g′ .0))
 
   refused-is : {own : TestedRecord} {why : Refusal} → OwnTests s own → own .tested ≡ tested.Refused why → judgementOf s ≡ refused (numberOf why)
   unfolding judgementOf

@@ -22,9 +22,14 @@ mod Applying
 mod MatchLaws
 mod CheckWays
 mod TruthProofs
+mod NarrowerLaws
+mod FinerRanges
+mod FinerProofs
 mod AnswerWays
 mod HandedLaws
 mod JudgeLaws
+mod RereadLaws
+mod FinerExamples
 mod MostLaws
 pub mod Laws
 pub mod RepeatLaws

@@ -38,7 +38,7 @@ use Rattle.judge.proofs.ConductivityLaws.{conductivity-sound, conductiv
 use Rattle.judge.proofs.RatioLaws.{ratio-sound, ratio-passes, nitrogen-sound, nitrogen-passes}
 
 -- what a record leaves open is never empty
-proper : (s : List ℕ) → Valid s → Proper (rangesOf s)
+pub proper : (s : List ℕ) → Valid s → Proper (rangesOf s)
 unfolding correctionWith
 proper s valid =
     let b = record-bounded s valid in

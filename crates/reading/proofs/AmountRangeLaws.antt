@@ -1,4 +1,4 @@
--- The range of a reading's amounts: all that `solution` and `judge` know of it.
+-- The range of a reading's amounts: what `solution` and `judge` know of one range. `FinerProofs` is of two.
 use mathlib.Core.Path.{_≡_, refl, sym}
 use mathlib.Core.Bool.{Bool, true, false}
 use Prim.Native.Nat.{_*_, _≤_}

@@ -53,7 +53,7 @@ rangeFrom Missing amount limit = record { least = amount; most = amount }
 rangeFrom (Measured x) amount limit = record { least = amount; most = amount }
 rangeFrom (Below x) amount limit = record { least = 0; most = limit }
 
--- `solution` and `judge` never open this definition: they know the laws of `AmountRangeLaws` alone
+-- `solution` and `judge` know this definition by `AmountRangeLaws` and `FinerLaws` alone, but for examples that compute
 unfoldable pub rangeOf : Analyte → AmountRange
 rangeOf a = rangeFrom (a .reading) (a .mass .0) (a .limit .0)
 

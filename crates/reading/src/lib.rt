@@ -12,6 +12,7 @@ ghost use Rattle.reading.specs.Answers.{readingOutcome, wordsOutcome, am
 ghost use Rattle.reading.specs.Readings.{analysedOf, readingOf, wordsOf, WordLaws};
 ghost use Rattle.reading.specs.Amounts.{amountOf, AmountLaws};
 ghost use Rattle.reading.specs.Analytes.{present, analyteFrom, rangeOf, rangeIn, AmountRangeLaws};
+ghost use Rattle.reading.specs.Finer.{FinerLaws};
 
 // The greatest amount, and the scale of amounts, for a crate that says how great sums or limits are.
 pub use rounding::MOST_MASS;
@@ -186,10 +187,12 @@ impl Analyte {
         }
     }
 
-    // A reading below its limit stands for every amount up to its limit's, any other for its one amount.
+    // A reading below its limit stands for every amount up to its limit's, any other for its one amount. The last promise is of
+    // a finer reading's range (document 02 (vii)).
     pub fn range(self) -> MassRange
         ensures answer { λ r. ⌜ rangeIn r ≡ rangeOf self ⌝ }
         ensures laws { λ r. ⌜ AmountRangeLaws ⌝ }
+        ensures finer { λ r. ⌜ FinerLaws ⌝ }
     {
         let mass = self.mass;
         let limit = self.limit;

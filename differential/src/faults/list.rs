@@ -131,6 +131,12 @@ pub enum Fault {
     SampleBeyondTaken,
     LentLengthTold,
     JoinedLengthToldWhenRefused,
+    BelowIsNothing,
+    BelowIsItsLimit,
+    BalanceFromTheHalf,
+    TotalNitrogenAtItsLimit,
+    BelowIonMissing,
+    BelowChlorideMissing,
 }
 
 use Fault::*;
@@ -266,6 +272,12 @@ pub const FAULTS: &[(Fault, &str)] = &[
     (SampleBeyondTaken, "joins"),
     (LentLengthTold, "joins"),
     (JoinedLengthToldWhenRefused, "joins"),
+    (BelowIsNothing, "finer"),
+    (BelowIsItsLimit, "finer"),
+    (BalanceFromTheHalf, "finer"),
+    (TotalNitrogenAtItsLimit, "finer"),
+    (BelowIonMissing, "finer"),
+    (BelowChlorideMissing, "finer"),
 ];
 
 /// The faults in the correction of conductivity for ionic strength.
@@ -337,6 +349,16 @@ pub const OTHER_RANGES: [Fault; 44] = [
     BelowTotalNitrogenMissing,
 ];
 
+/// The faults by which a finer reading overturns a verdict.
+pub const OVERTURNING: [Fault; 6] = [
+    BelowIsNothing,
+    BelowIsItsLimit,
+    BalanceFromTheHalf,
+    TotalNitrogenAtItsLimit,
+    BelowIonMissing,
+    BelowChlorideMissing,
+];
+
 #[cfg(test)]
 mod tests {
     use super::*;
@@ -348,9 +370,10 @@ mod tests {
         for (place, (fault, _)) in FAULTS.iter().enumerate() {
             assert!(FAULTS[..place].iter().all(|(other, _)| other != fault));
         }
-        let in_the_list = |fault: &Fault| FAULTS.contains(&(*fault, "records"));
-        assert!(CORRECTION.iter().all(in_the_list));
-        assert!(OTHER_RANGES.iter().all(in_the_list));
+        let of_part = |faults: &[Fault], part| faults.iter().all(|&f| FAULTS.contains(&(f, part)));
+        assert!(of_part(&CORRECTION, "records"));
+        assert!(of_part(&OTHER_RANGES, "records"));
+        assert!(of_part(&OVERTURNING, "finer"));
         let count = format!(" {} faults ", FAULTS.len());
         assert!(README.contains(&count), "{count}");
     }

@@ -1,6 +1,7 @@
 //! Faults in the ranges of below readings (document 02 (vi)): another range in
 //! all checks or in one of them, another use of its ends, another verdict.
 
+use super::overturning;
 use super::Fault::{self, *};
 use crate::numbers::{
     AMMONIUM, BALANCE_CHECK, BULK, CARBON_LINE, CHLORIDE, CONDUCTIVITY_CHECK, IONS, NITRATE,
@@ -29,6 +30,7 @@ pub fn judge_by_other_ranges(fault: Fault, record: &Record, verdicts: &mut [u32]
     }
     without_a_ratio(fault, record, verdicts);
     taken_for_missing(fault, record, verdicts);
+    overturning::taken_for_missing(fault, record, verdicts);
 }
 
 /// Chloride that is missing taken for none of it, total nitrogen below its limit
@@ -88,7 +90,7 @@ pub fn range(fault: Fault, check: usize, record: &Record, place: usize) -> Optio
         (RangeFromOne, _)
         | (BalanceFromOne, BALANCE_CHECK)
         | (ConductivityFromOne, CONDUCTIVITY_CHECK) => from(1, right),
-        _ => right,
+        _ => overturning::range(fault, check, record, place).unwrap_or(right),
     })
 }
 
@@ -267,7 +269,7 @@ fn carbon_line(fault: Fault, record: &Record, verdicts: &mut [u32]) {
 mod tests {
     use super::super::stored_records;
     use super::*;
-    use crate::faults::OTHER_RANGES;
+    use crate::faults::{OTHER_RANGES, OVERTURNING};
     use reference::cases::bottle::plausible;
     use reference::cases::generator::Generator;
     use reference::cases::ranges::with_below;
@@ -297,7 +299,7 @@ mod tests {
     #[test]
     fn the_stored_cases_tell_every_fault() {
         let records = stored_records();
-        for fault in OTHER_RANGES {
+        for fault in OTHER_RANGES.into_iter().chain(OVERTURNING) {
             let changed = records.iter().filter(|record| {
                 let (right, other) = right_and_other(fault, record);
                 right != other

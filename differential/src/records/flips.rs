@@ -80,7 +80,7 @@ pub fn beside_a_flip(generator: &mut Generator, bottle: &Bottle) -> Vec<Bottle> 
 
 /// From two values with different answers, the first of two neighbours with
 /// different answers.
-fn last_before_a_change<A: PartialEq>(
+pub fn last_before_a_change<A: PartialEq>(
     mut from: u32,
     mut to: u32,
     answer: impl Fn(u32) -> A,

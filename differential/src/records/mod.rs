@@ -9,6 +9,7 @@ mod written;
 
 pub use case::{describe_record, smaller_records};
 pub use damage::damaged;
+pub use flips::{beside_a_flip, last_before_a_change};
 
 use crate::bottles::any_bottle;
 use crate::case::{Mismatch, Run};
@@ -85,7 +86,7 @@ fn check(run: &mut Run, words: &[u32]) -> Result<(), Mismatch> {
 fn flips(run: &mut Run) -> Result<(), Mismatch> {
     for _ in 0..FLIPS {
         let bottle = any_bottle(&mut run.generator);
-        for bottle in flips::beside_a_flip(&mut run.generator, &bottle) {
+        for bottle in beside_a_flip(&mut run.generator, &bottle) {
             check(run, bottle.words())?;
         }
     }
