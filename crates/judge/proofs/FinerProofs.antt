@@ -1,4 +1,5 @@
--- A finer record keeps every verdict but an undecided one, and but Na/Cl where chloride may be 0: it leaves fewer choices open, and each check applies to it as to the first.
+-- A finer record keeps every verdict but an undecided one, and but Na/Cl where chloride may be 0: it leaves fewer choices open, and each check
+-- applies to it as to the first.
 use mathlib.Core.Path.{_≡_, refl}
 use mathlib.Core.Bool.{Bool, true, false, and-false}
 use mathlib.Core.List.{List}
@@ -47,7 +48,8 @@ module _ (old new : List ℕ) (f : FinerRecord old new) where
       go false e = refl
 
   module _ (v : Valid old) (v′ : Valid new) where
-    kept : (k : Check) → Sound k → (applies known : Bool) → Kept (applied applies known (passesOf k (rangesOf old))) (applied applies known (passesOf k (rangesOf new)))
+    kept : (k : Check) → Sound k → (applies known : Bool)
+        → Kept (applied applies known (passesOf k (rangesOf old))) (applied applies known (passesOf k (rangesOf new)))
     kept k o = verdict-kept k o (rangesOf old) (rangesOf new) (proper old v) (proper new v′) (narrower old new f v v′)
 
     balance-kept : Kept (ionBalanceOf old) (ionBalanceOf new)
@@ -80,8 +82,8 @@ module _ (old new : List ℕ) (f : FinerRecord old new) where
         record {
           balance = balance-kept;
           conductivity = conductivity-kept;
-          ratio = ratio-kept;
-          ratioZero = ratio-zero old;
+          ratio = λ without. ratio-kept without;
+          ratioZero = λ has. ratio-zero old has;
           nitrogen = nitrogen-kept;
           choices = narrower-among (rangesOf old) (rangesOf new) (narrower old new f v v′);
         }

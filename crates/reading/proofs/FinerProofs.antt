@@ -29,7 +29,7 @@ lower-limit x y h k l = mass-rises x y (limit-value x h) (limit-value y k) l
 
 at-most-limit : (x y : Float) → InRange (Below x) → InRange (Measured y) → FloatAtMost y x → Finer (Below x) (Measured y)
 unfolding rangeOf
-at-most-limit x y h k l = Finer.inside x y (omega arith, mass-rises x y (limit-value x h) k l)
+at-most-limit x y h k l = Finer.inside x y (omega arith, omega (arith, mass-rises x y (limit-value x h) k l))
 
 there : (old new : Reading) → Finer old new → present new ≡ present old
 there old new (Finer.same _) = refl

@@ -1,4 +1,4 @@
-// Readings of the analyser (document 01, 'A reading', and 02 (i) and (vi)): made from a value and its quantification limit,
+// Readings of the analyser (document 01, 'A reading', and 02 (i), (vi) and (vii)): made from a value and its quantification limit,
 // or from the two words of a record; written back as words; and converted to an amount in tenths of a µg/L, and to the range
 // of amounts that a check takes it for.
 mod amounts;
