@@ -7,25 +7,25 @@ use native.Mathlib.Omega.{arith}
 use lib.Dec.{T, leb, ltb, leb→le, ltb→lt}
 use lib.ListN.{length, get_or}
 use lib.Ieee.Fits.{and_l, and_r}
-use Rattle.activity.specs.Floors.{thousandthPower, power, floorAt}
-use Rattle.activity.specs.Steps.{tableLength}
+use Rattle.activity.specs.Floors.{thousandth_power, power, floor_at}
+use Rattle.activity.specs.Steps.{table_length}
 use Rattle.refusal.proofs.Tables.{every, at, joined}
 use Rattle.activity.proofs.FloorLaws.{floor-is}
 
 -- the rule as two tests: x to the thousandth is at most the power at n, and x + 1 to the thousandth is above it
 abbrev low : ℕ → ℕ → Bool
-low n x = leb (thousandthPower x) (power n)
+low n x = leb (thousandth_power x) (power n)
 
 abbrev high : ℕ → ℕ → Bool
-high n x = ltb (power n) (thousandthPower (x + 1))
+high n x = ltb (power n) (thousandth_power (x + 1))
 
 abbrev right : ℕ → ℕ → Bool
 right n x = low n x && high n x
 
 -- the code's table again, since a proof can't name a constant of the code: that of `table::row` finds each of the code's rows in it. It
 -- stands in two halves, since one test of all entries is beyond antt's limit of steps
-unfoldable pub firstHalf : List ℕ
-firstHalf =
+unfoldable pub first_half : List ℕ
+first_half =
     1000000000 ∷ 997700063 ∷ 995405417 ∷ 993116048 ∷ 990831944 ∷ 988553094 ∷ 986279485 ∷ 984011105 ∷ 981747943 ∷ 979489985 ∷
     977237220 ∷ 974989637 ∷ 972747223 ∷ 970509967 ∷ 968277856 ∷ 966050878 ∷ 963829023 ∷ 961612278 ∷ 959400631 ∷ 957194071 ∷
     954992586 ∷ 952796164 ∷ 950604793 ∷ 948418463 ∷ 946237161 ∷ 944060876 ∷ 941889596 ∷ 939723310 ∷ 937562006 ∷ 935405674 ∷
@@ -37,8 +37,8 @@ firstHalf =
     831763771 ∷ 829850767 ∷ 827942163 ∷ 826037949 ∷ 824138115 ∷ 822242649 ∷ 820351544 ∷ 818464788 ∷ 816582371 ∷ 814704284 ∷
     812830516 ∷ 810961057 ∷ 809095899 ∷ 807235030 ∷ 805378441 ∷ 803526122 ∷ 801678063 ∷ 799834255 ∷ 797994687 ∷ 796159350 ∷ []
 
-unfoldable pub secondHalf : List ℕ
-secondHalf =
+unfoldable pub second_half : List ℕ
+second_half =
     794328234 ∷ 792501330 ∷ 790678627 ∷ 788860117 ∷ 787045789 ∷ 785235634 ∷ 783429642 ∷ 781627804 ∷ 779830110 ∷ 778036551 ∷
     776247116 ∷ 774461797 ∷ 772680585 ∷ 770903469 ∷ 769130440 ∷ 767361489 ∷ 765596606 ∷ 763835783 ∷ 762079010 ∷ 760326276 ∷
     758577575 ∷ 756832895 ∷ 755092227 ∷ 753355563 ∷ 751622894 ∷ 749894209 ∷ 748169500 ∷ 746448758 ∷ 744731973 ∷ 743019137 ∷
@@ -51,30 +51,30 @@ secondHalf =
     645654229 ∷ 644169265 ∷ 642687717 ∷ 641209576 ∷ 639734835 ∷ 638263486 ∷ 636795520 ∷ 635330931 ∷ 633869711 ∷ 632411851 ∷ []
 
 unfoldable pub floors : List ℕ
-floors = firstHalf ++ secondHalf
+floors = first_half ++ second_half
 
 -- the computed test, a half at a time
-first-tested : T (every right 0 firstHalf)
-unfolding firstHalf power
+first-tested : T (every right 0 first_half)
+unfolding first_half power
 first-tested = tt
 
-second-tested : T (every right (length firstHalf) secondHalf)
-unfolding firstHalf secondHalf power
+second-tested : T (every right (length first_half) second_half)
+unfolding first_half second_half power
 second-tested = tt
 
 tested : T (every right 0 floors)
-unfolding floors firstHalf
-tested = joined right firstHalf secondHalf 0 first-tested second-tested
+unfolding floors first_half
+tested = joined right first_half second_half 0 first-tested second-tested
 
 -- a number that passes the two tests is the floor
-is-floor : (n x : ℕ) → T (right n x) → floorAt n ≡ x
+is-floor : (n x : ℕ) → T (right n x) → floor_at n ≡ x
 is-floor n x passes =
-    floor-is n x (leb→le (thousandthPower x) (power n) (and_l (low n x) (high n x) passes))
-    (ltb→lt (power n) (thousandthPower (x + 1)) (and_r (low n x) (high n x) passes))
+    floor-is n x (leb→le (thousandth_power x) (power n) (and_l (low n x) (high n x) passes))
+    (ltb→lt (power n) (thousandth_power (x + 1)) (and_r (low n x) (high n x) passes))
 
 -- so the entry is the floor
-pub floor-entry : (n : ℕ) → n < tableLength → floorAt n ≡ get_or floors n 0
-unfolding floors firstHalf secondHalf
+pub floor-entry : (n : ℕ) → n < table_length → floor_at n ≡ get_or floors n 0
+unfolding floors first_half second_half
 floor-entry n h =
     let from_zero : 0 + n ≡ n = omega arith in
     is-floor n (get_or floors n 0) (subst (λ (m : ℕ). T (right m (get_or floors n 0))) from_zero (at right floors 0 tested n h))

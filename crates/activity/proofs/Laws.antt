@@ -8,12 +8,12 @@ use native.Mathlib.Omega.{arith}
 use lib.Dec.{ltb}
 use borrow.Author.Tests.{lt-ltb, le-ltb}
 use Rattle.activity.specs.declared.Correction.TheVariants.{Between, TooStrong}
-use Rattle.activity.specs.Strength.{strongest, lowerRoot, upperRoot}
-use Rattle.activity.specs.Exponent.{lowerExponent, upperExponent}
-use Rattle.activity.specs.Floors.{floorAt}
-use Rattle.activity.specs.Brackets.{unit, lowerEnd, upperEnd, correctionOf}
+use Rattle.activity.specs.Strength.{strongest, lower_root, upper_root}
+use Rattle.activity.specs.Exponent.{lower_exponent, upper_exponent}
+use Rattle.activity.specs.Floors.{floor_at}
+use Rattle.activity.specs.Brackets.{unit, lower_end, upper_end, correction_of}
 use Rattle.activity.specs.Truth.{Holds, Bracketed}
-use Rattle.activity.specs.Steps.{tableLength}
+use Rattle.activity.specs.Steps.{table_length}
 use Rattle.activity.proofs.RootLaws.{lower-root, upper-root, roots-ordered, lower-root-grows, upper-root-grows, lower-root-small, upper-root-small}
 use Rattle.activity.proofs.Grows.{growing}
 use Rattle.activity.proofs.ExponentLaws.{lower-exponent, upper-exponent, lower-exponent-grows, upper-exponent-grows, exponents-ordered, upper-exponent-small}
@@ -21,54 +21,54 @@ use Rattle.activity.proofs.FloorLaws.{floor-of-power, floor-falls, floor-most, f
 use Rattle.activity.proofs.Sound as sound
 
 pub bracket-given : (least greatest : ℕ) → least ≤ strongest → greatest ≤ strongest
-    → correctionOf least greatest ≡ Between (lowerEnd greatest) (upperEnd least)
-unfolding correctionOf
+    → correction_of least greatest ≡ Between (lower_end greatest) (upper_end least)
+unfolding correction_of
 bracket-given least greatest l g = rw (le-ltb strongest least l, le-ltb strongest greatest g)
 
-pub bracket-none : (least greatest : ℕ) → (strongest < least) ⊎ (strongest < greatest) → correctionOf least greatest ≡ TooStrong
-unfolding correctionOf
+pub bracket-none : (least greatest : ℕ) → (strongest < least) ⊎ (strongest < greatest) → correction_of least greatest ≡ TooStrong
+unfolding correction_of
 bracket-none least greatest =
     ⊎_elim (λ l. rw (lt-ltb strongest least l)) (λ g. rw (lt-ltb strongest greatest g, or-true (ltb strongest least)))
 
 -- the lower end is above 0
-pub lower-positive : (greatest : ℕ) → greatest ≤ strongest → 0 < lowerEnd greatest
-unfolding lowerEnd
+pub lower-positive : (greatest : ℕ) → greatest ≤ strongest → 0 < lower_end greatest
+unfolding lower_end
 lower-positive greatest g =
-    let small : upperExponent (upperRoot greatest) < tableLength = upper-exponent-small (upperRoot greatest) (upper-root-small greatest g) in
-    floor-positive (upperExponent (upperRoot greatest)) (omega arith)
+    let small : upper_exponent (upper_root greatest) < table_length = upper-exponent-small (upper_root greatest) (upper-root-small greatest g) in
+    floor-positive (upper_exponent (upper_root greatest)) (omega arith)
 
 -- the ends are in order: the exponent of the greatest strength is not below that of the least
 floors-ordered : (least greatest : ℕ) → least ≤ greatest → greatest ≤ strongest
-    → floorAt (upperExponent (upperRoot greatest)) ≤ floorAt (lowerExponent (lowerRoot least))
+    → floor_at (upper_exponent (upper_root greatest)) ≤ floor_at (lower_exponent (lower_root least))
 floors-ordered least greatest l g =
-    let roots : lowerRoot least ≤ upperRoot greatest = le_trans (lower-root-grows l) (roots-ordered greatest) in
+    let roots : lower_root least ≤ upper_root greatest = le_trans (lower-root-grows l) (roots-ordered greatest) in
     floor-falls
-    (le_trans (lower-exponent-grows (lowerRoot least) (upperRoot greatest) roots (upper-root-small greatest g))
-    (exponents-ordered (upperRoot greatest)))
+    (le_trans (lower-exponent-grows (lower_root least) (upper_root greatest) roots (upper-root-small greatest g))
+    (exponents-ordered (upper_root greatest)))
 
-pub ends-ordered : (least greatest : ℕ) → least ≤ greatest → greatest ≤ strongest → lowerEnd greatest ≤ upperEnd least
-unfolding lowerEnd upperEnd
+pub ends-ordered : (least greatest : ℕ) → least ≤ greatest → greatest ≤ strongest → lower_end greatest ≤ upper_end least
+unfolding lower_end upper_end
 ends-ordered least greatest l g = omega (arith, floors-ordered least greatest l g)
 
 -- no end is above 10^9 + 1
-pub lower-most : (greatest : ℕ) → lowerEnd greatest ≤ unit + 1
-unfolding lowerEnd
-lower-most greatest = omega (arith, floor-most (upperExponent (upperRoot greatest)))
+pub lower-most : (greatest : ℕ) → lower_end greatest ≤ unit + 1
+unfolding lower_end
+lower-most greatest = omega (arith, floor-most (upper_exponent (upper_root greatest)))
 
-pub upper-most : (least : ℕ) → upperEnd least ≤ unit + 1
-unfolding upperEnd
-upper-most least = omega (arith, floor-most (lowerExponent (lowerRoot least)))
+pub upper-most : (least : ℕ) → upper_end least ≤ unit + 1
+unfolding upper_end
+upper-most least = omega (arith, floor-most (lower_exponent (lower_root least)))
 
 -- both fall as the strength grows, so a narrower range of strengths gives a narrower bracket
-pub lower-falls : {a b : ℕ} → a ≤ b → b ≤ strongest → lowerEnd b ≤ lowerEnd a
-unfolding lowerEnd
-lower-falls {a} {b} l s = floor-falls (upper-exponent-grows (upperRoot a) (upperRoot b) (upper-root-grows l) (upper-root-small b s))
+pub lower-falls : {a b : ℕ} → a ≤ b → b ≤ strongest → lower_end b ≤ lower_end a
+unfolding lower_end
+lower-falls {a} {b} l s = floor-falls (upper-exponent-grows (upper_root a) (upper_root b) (upper-root-grows l) (upper-root-small b s))
 
-pub upper-falls : {a b : ℕ} → a ≤ b → b ≤ strongest → upperEnd b ≤ upperEnd a
-unfolding upperEnd
+pub upper-falls : {a b : ℕ} → a ≤ b → b ≤ strongest → upper_end b ≤ upper_end a
+unfolding upper_end
 upper-falls {a} {b} l s =
-    let falls : floorAt (lowerExponent (lowerRoot b)) ≤ floorAt (lowerExponent (lowerRoot a)) =
-    floor-falls (lower-exponent-grows (lowerRoot a) (lowerRoot b) (lower-root-grows l) (lower-root-small b s)) in
+    let falls : floor_at (lower_exponent (lower_root b)) ≤ floor_at (lower_exponent (lower_root a)) =
+    floor-falls (lower-exponent-grows (lower_root a) (lower_root b) (lower-root-grows l) (lower-root-small b s)) in
     omega arith
 
 -- 10^9 y² lies between them
@@ -82,8 +82,8 @@ bracketed least greatest =
       named = record {
         lower-s = lower-root least;
         upper-s = upper-root greatest;
-        lower-e = lower-exponent (lowerRoot least);
-        upper-e = upper-exponent (upperRoot greatest);
+        lower-e = lower-exponent (lower_root least);
+        upper-e = upper-exponent (upper_root greatest);
         floor = floor-of-power;
       };
       growing = growing;

@@ -6,7 +6,7 @@ use native.Mathlib.Decide.{dec_le}
 use native.Mathlib.Omega.{arith}
 use lib.Pow.{pow-add}
 use Rattle.refusal.proofs.Powers.{power-lt-back, power-le-back, le-power}
-use Rattle.activity.specs.Floors.{thousandthPower}
+use Rattle.activity.specs.Floors.{thousandth_power}
 
 pub pow-mul : (a m n : ℕ) → a ^ (m * n) ≡ (a ^ m) ^ n
 pow-mul a m zero = ap (λ (x : ℕ). a ^ x) (mul-zero m) ∙ pow-zero a ∙ sym (pow-zero (a ^ m))
@@ -15,13 +15,13 @@ pow-mul a m (suc n) =
     ∙ sym (pow-suc (a ^ m) n)
 
 -- of two numbers, the one with the smaller thousandth power is the smaller
-pub lt_back : {a b : ℕ} → thousandthPower a < thousandthPower b → a < b
+pub lt_back : {a b : ℕ} → thousandth_power a < thousandth_power b → a < b
 lt_back h = power-lt-back _ h
 
-pub le-back : {a b : ℕ} → thousandthPower a ≤ thousandthPower b → a ≤ b
+pub le-back : {a b : ℕ} → thousandth_power a ≤ thousandth_power b → a ≤ b
 le-back h = power-le-back _ (omega arith) h
 
-pub le-own-power : (a : ℕ) → a ≤ thousandthPower a
+pub le-own-power : (a : ℕ) → a ≤ thousandth_power a
 le-own-power a = le-power a _ (omega arith)
 
 -- the same of squares

@@ -4,7 +4,7 @@ use mathlib.Core.Bool.{Bool, true, false, cond}
 use Prim.Native.Nat.{ℕ, zero, suc, ◌≤◌, zero-le}
 use native.Mathlib.Decide.{dec_le}
 use native.Mathlib.Omega.{arith}
-use Rattle.activity.specs.Search.{greatestSuch, leastSuch}
+use Rattle.activity.specs.Search.{greatest_such, least_such}
 
 never : true ≡ false → ⊥
 never z = let y : ◌≡◌ {A = ℕ} 0 1 = cc in omega arith
@@ -15,10 +15,10 @@ taken-passes f n r true e h = e
 taken-passes f n r false e h = h
 
 -- the greatest passes, where 0 does
-pub greatest-passes : (f : ℕ → Bool) (n : ℕ) → f zero ≡ true → f (greatestSuch f n) ≡ true
-unfolding greatestSuch
+pub greatest-passes : (f : ℕ → Bool) (n : ℕ) → f zero ≡ true → f (greatest_such f n) ≡ true
+unfolding greatest_such
 greatest-passes f zero z = z
-greatest-passes f (suc n) z = taken-passes f (suc n) (greatestSuch f n) (f (suc n)) refl (greatest-passes f n z)
+greatest-passes f (suc n) z = taken-passes f (suc n) (greatest_such f n) (f (suc n)) refl (greatest-passes f n z)
 
 -- and no number up to n that passes is greater
 most_step : (f : ℕ → Bool) (n r x : ℕ) (b : Bool) → f (suc n) ≡ b → x ≤ suc n → f x ≡ true → (x ≤ n → x ≤ r)
@@ -30,16 +30,16 @@ most_step f n r x false d l e h = go (dec_le x n)
     go (yes m) = h m
     go (no m) = let is : x ≡ suc n = omega (arith, m) in let z : true ≡ false = cc in absurd (never z)
 
-pub greatest-most : (f : ℕ → Bool) (n x : ℕ) → x ≤ n → f x ≡ true → x ≤ greatestSuch f n
-unfolding greatestSuch
+pub greatest-most : (f : ℕ → Bool) (n x : ℕ) → x ≤ n → f x ≡ true → x ≤ greatest_such f n
+unfolding greatest_such
 greatest-most f zero x l e = l
-greatest-most f (suc n) x l e = most_step f n (greatestSuch f n) x (f (suc n)) refl l e (λ m. greatest-most f n x m e)
+greatest-most f (suc n) x l e = most_step f n (greatest_such f n) x (f (suc n)) refl l e (λ m. greatest-most f n x m e)
 
 -- the least passes, where n does
-pub least-passes : (f : ℕ → Bool) (n : ℕ) → f n ≡ true → f (leastSuch f n) ≡ true
-unfolding leastSuch
+pub least-passes : (f : ℕ → Bool) (n : ℕ) → f n ≡ true → f (least_such f n) ≡ true
+unfolding least_such
 least-passes f zero e = e
-least-passes f (suc n) e = taken-passes f zero (suc (leastSuch (λ k. f (suc k)) n)) (f zero) refl (least-passes (λ k. f (suc k)) n e)
+least-passes f (suc n) e = taken-passes f zero (suc (least_such (λ k. f (suc k)) n)) (f zero) refl (least-passes (λ k. f (suc k)) n e)
 
 -- and no number that passes is less
 least_step : (f : ℕ → Bool) (r x : ℕ) (b : Bool) → f zero ≡ b → f x ≡ true → ((y : ℕ) → f (suc y) ≡ true → r ≤ y)
@@ -48,7 +48,7 @@ least_step f r x true d e h = zero-le
 least_step f r zero false d e h = let z : true ≡ false = cc in absurd (never z)
 least_step f r (suc x) false d e h = let l : r ≤ x = h x e in omega arith
 
-pub least-least : (f : ℕ → Bool) (n x : ℕ) → f x ≡ true → leastSuch f n ≤ x
-unfolding leastSuch
+pub least-least : (f : ℕ → Bool) (n x : ℕ) → f x ≡ true → least_such f n ≤ x
+unfolding least_such
 least-least f zero x e = zero-le
-least-least f (suc n) x e = least_step f (leastSuch (λ k. f (suc k)) n) x (f zero) refl e (λ y d. least-least (λ k. f (suc k)) n y d)
+least-least f (suc n) x e = least_step f (least_such (λ k. f (suc k)) n) x (f zero) refl e (λ y d. least-least (λ k. f (suc k)) n y d)

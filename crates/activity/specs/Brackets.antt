@@ -2,23 +2,23 @@
 use Rattle.std.specs.Prelude.{cond, ◌||◌, ℕ, ◌+◌, ◌^◌, ltb}
 use Rattle.activity.specs.declared.Correction.{Correction}
 use Rattle.activity.specs.declared.Correction.TheVariants.{Between, TooStrong}
-use Rattle.activity.specs.Strength.{strongest, lowerRoot, upperRoot}
-use Rattle.activity.specs.Exponent.{lowerExponent, upperExponent}
-use Rattle.activity.specs.Floors.{places, floorAt}
+use Rattle.activity.specs.Strength.{strongest, lower_root, upper_root}
+use Rattle.activity.specs.Exponent.{lower_exponent, upper_exponent}
+use Rattle.activity.specs.Floors.{places, floor_at}
 
 -- 10^9 y² where y² is 1
 abbrev pub unit : ℕ
 unit = 10 ^ places
 
 -- 'the whole-number floor of 10^(9 − upper e)', of the greatest strength
-unfoldable pub lowerEnd : ℕ → ℕ
-lowerEnd greatest = floorAt (upperExponent (upperRoot greatest))
+unfoldable pub lower_end : ℕ → ℕ
+lower_end greatest = floor_at (upper_exponent (upper_root greatest))
 
 -- 'the floor of 10^(9 − lower e) plus 1', of the least strength
-unfoldable pub upperEnd : ℕ → ℕ
-upperEnd least = floorAt (lowerExponent (lowerRoot least)) + 1
+unfoldable pub upper_end : ℕ → ℕ
+upper_end least = floor_at (lower_exponent (lower_root least)) + 1
 
 -- '10^9 y² lies between' the two, 'both included'; none is given where a strength is above every record's
-unfoldable pub correctionOf : ℕ → ℕ → Correction
-correctionOf least greatest =
-    cond (ltb strongest least || ltb strongest greatest) TooStrong (Between (lowerEnd greatest) (upperEnd least))
+unfoldable pub correction_of : ℕ → ℕ → Correction
+correction_of least greatest =
+    cond (ltb strongest least || ltb strongest greatest) TooStrong (Between (lower_end greatest) (upper_end least))

@@ -1,6 +1,6 @@
 -- Document 02 (v): 'write e for s/(1+s) − 0.3 s²', at a fraction s = a / b, and the thousandths below and above it.
 use Rattle.std.specs.Prelude.{ℕ, ◌+◌, ◌-◌, ◌*◌, ◌^◌, ◌≤◌, leb}
-use Rattle.activity.specs.Search.{greatestSuch, leastSuch}
+use Rattle.activity.specs.Search.{greatest_such, least_such}
 
 -- s/(1+s) is a / (a + b), and 0.3 s² is 3 a² / 10 b². What both are over their common divisor, 10 b² (a + b): the 0.3 is the 3 of `loss` over
 -- the 10 of `bottom`
@@ -35,9 +35,9 @@ abbrev pub NotBelow : (k n : ℕ) → Type 0
 NotBelow k n = thousand * top k million ≤ n * bottom k million
 
 -- 'the lower e is the greatest thousandth not above its value at the lower s', in thousandths. e is below 1
-unfoldable pub lowerExponent : ℕ → ℕ
-lowerExponent k = greatestSuch (λ n. leb (n * bottom k million) (thousand * top k million)) thousand
+unfoldable pub lower_exponent : ℕ → ℕ
+lower_exponent k = greatest_such (λ n. leb (n * bottom k million) (thousand * top k million)) thousand
 
 -- 'the upper e the least thousandth not below its value at the upper s'
-unfoldable pub upperExponent : ℕ → ℕ
-upperExponent k = leastSuch (λ n. leb (thousand * top k million) (n * bottom k million)) thousand
+unfoldable pub upper_exponent : ℕ → ℕ
+upper_exponent k = least_such (λ n. leb (thousand * top k million) (n * bottom k million)) thousand

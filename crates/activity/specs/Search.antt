@@ -2,14 +2,14 @@
 use Rattle.std.specs.Prelude.{Bool, cond, ℕ, zero, suc, ◌≤◌}
 
 -- the greatest number up to n that passes a test; 0 where none does
-unfoldable pub greatestSuch : (ℕ → Bool) → ℕ → ℕ
-greatestSuch test zero = zero
-greatestSuch test (suc n) = cond (test (suc n)) (suc n) (greatestSuch test n)
+unfoldable pub greatest_such : (ℕ → Bool) → ℕ → ℕ
+greatest_such test zero = zero
+greatest_such test (suc n) = cond (test (suc n)) (suc n) (greatest_such test n)
 
 -- the least number that passes a test; n where none below n does
-unfoldable pub leastSuch : (ℕ → Bool) → ℕ → ℕ
-leastSuch test zero = zero
-leastSuch test (suc n) = cond (test zero) zero (suc (leastSuch (λ k. test (suc k)) n))
+unfoldable pub least_such : (ℕ → Bool) → ℕ → ℕ
+least_such test zero = zero
+least_such test (suc n) = cond (test zero) zero (suc (least_such (λ k. test (suc k)) n))
 
 -- h is the greatest of all whole numbers of a kind
 pub record IsGreatest (is : ℕ → Type 0) (h : ℕ) : Type 0 where

@@ -3,18 +3,18 @@
 -- In a fraction a / b, b is above 0. A strength is a fraction w / q here, as hydrogen is between h and h + 1.
 use Rattle.std.specs.Prelude.{ℕ, ◌+◌, ◌-◌, ◌*◌, ◌^◌, ◌≤◌, ◌<◌}
 use Rattle.activity.specs.Search.{IsGreatest, IsLeast}
-use Rattle.activity.specs.Strength.{strongest, square, lowerRoot, upperRoot}
-use Rattle.activity.specs.Exponent.{bottom, gain, loss, top, million, NotAbove, NotBelow, lowerExponent, upperExponent}
-use Rattle.activity.specs.Floors.{places, thousandthPower, power, floorAt}
-use Rattle.activity.specs.Brackets.{unit, lowerEnd, upperEnd}
+use Rattle.activity.specs.Strength.{strongest, square, lower_root, upper_root}
+use Rattle.activity.specs.Exponent.{bottom, gain, loss, top, million, NotAbove, NotBelow, lower_exponent, upper_exponent}
+use Rattle.activity.specs.Floors.{places, thousandth_power, power, floor_at}
+use Rattle.activity.specs.Brackets.{unit, lower_end, upper_end}
 
 -- the searches of the definitions find the numbers that document 02 names
 pub record Named (least greatest : ℕ) : Type 0 where
-  pub lower-s : IsGreatest (λ k. square k ≤ least) (lowerRoot least)
-  pub upper-s : IsLeast (λ k. greatest ≤ square k) (upperRoot greatest)
-  pub lower-e : IsGreatest (NotAbove (lowerRoot least)) (lowerExponent (lowerRoot least))
-  pub upper-e : IsLeast (NotBelow (upperRoot greatest)) (upperExponent (upperRoot greatest))
-  pub floor : (n : ℕ) → IsGreatest (λ x. thousandthPower x ≤ power n) (floorAt n)
+  pub lower-s : IsGreatest (λ k. square k ≤ least) (lower_root least)
+  pub upper-s : IsLeast (λ k. greatest ≤ square k) (upper_root greatest)
+  pub lower-e : IsGreatest (NotAbove (lower_root least)) (lower_exponent (lower_root least))
+  pub upper-e : IsLeast (NotBelow (upper_root greatest)) (upper_exponent (upper_root greatest))
+  pub floor : (n : ℕ) → IsGreatest (λ x. thousandth_power x ≤ power n) (floor_at n)
 
 -- s is at most a half: I is at most 0.25 mol/L, and no record's is above 0.08
 abbrev pub UpToHalf : ℕ → ℕ → Type 0
@@ -54,22 +54,22 @@ TrueAtMost w q x = (a b : ℕ) → 0 < b → UpToHalf a b → SquareAtLeast a b 
 pub record Holds (least greatest : ℕ) : Type 0 where
   -- at the root of every strength from the least to the greatest
   pub at-root : (w q : ℕ) → 0 < q → least * q ≤ w → w ≤ greatest * q
-      → TrueAtLeast w q (lowerEnd greatest) × TrueAtMost w q (upperEnd least)
+      → TrueAtLeast w q (lower_end greatest) × TrueAtMost w q (upper_end least)
   -- and at every fraction whose square is one of these
   pub at-fraction : (a b : ℕ) → 0 < b → SquareAtLeast a b least 1 → SquareAtMost a b greatest 1
-      → ActivityAtLeast a b (lowerEnd greatest) × ActivityAtMost a b (upperEnd least)
+      → ActivityAtLeast a b (lower_end greatest) × ActivityAtMost a b (upper_end least)
 
 -- what a check by the ends of the bracket needs: they are above 0, in order, and hardly above 10^9
 pub record Usable (least greatest : ℕ) : Type 0 where
-  pub positive : 0 < lowerEnd greatest
-  pub ordered : lowerEnd greatest ≤ upperEnd least
-  pub lower-room : lowerEnd greatest ≤ unit + 1
-  pub upper-room : upperEnd least ≤ unit + 1
+  pub positive : 0 < lower_end greatest
+  pub ordered : lower_end greatest ≤ upper_end least
+  pub lower-room : lower_end greatest ≤ unit + 1
+  pub upper-room : upper_end least ≤ unit + 1
 
 -- the bracket of the second pair of strengths is inside that of the first
 pub record Inside (least greatest least' greatest' : ℕ) : Type 0 where
-  pub over : lowerEnd greatest ≤ lowerEnd greatest'
-  pub under : upperEnd least' ≤ upperEnd least
+  pub over : lower_end greatest ≤ lower_end greatest'
+  pub under : upper_end least' ≤ upper_end least
 
 -- a narrower range of strengths gives a bracket inside the wider one's
 abbrev pub Narrows : ℕ → ℕ → Type 0

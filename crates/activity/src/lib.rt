@@ -7,7 +7,7 @@ mod rows;
 mod table;
 
 ghost use Rattle.std.specs.Prelude.{◌≡◌};
-ghost use Rattle.activity.specs.Brackets.{correctionOf};
+ghost use Rattle.activity.specs.Brackets.{correction_of};
 ghost use Rattle.activity.specs.Truth.{Bracketed};
 
 // An ionic strength in halves of 10^-15 mol/L: the sum over the ten rows of charge in u times the ion's charge number.
@@ -32,7 +32,7 @@ pub enum Correction {
 
 // The bracket of y² over all strengths from the least to the greatest. The second promise says what is true of it.
 pub fn bracket(least: IonicStrength, greatest: IonicStrength) -> Correction
-    ensures answer { result ≡ correctionOf least.0 greatest.0 }
+    ensures answer { result ≡ correction_of least.0 greatest.0 }
     ensures truth { Bracketed least.0 greatest.0 }
 {
     if least.0 > STRONGEST || greatest.0 > STRONGEST {

@@ -2,14 +2,14 @@
 // any guess above 0 the first step is not below the root, and each further one is nearer to it.
 ghost use Rattle.std.specs.Prelude.{◌≡◌, ◌+◌, ◌*◌, ◌/◌, ◌≤◌, ◌<◌};
 ghost use Rattle.activity.specs.Strength.{strongest};
-ghost use Rattle.activity.specs.Steps.{greatestRoot};
+ghost use Rattle.activity.specs.Steps.{greatest_root};
 
 // No root of a strength is above this one, so no guess need be: the square of a guess has room.
 const GREATEST_ROOT: u64 = 282843;
 
 // The greatest whole number whose square is at most x.
 pub fn whole_root(x: u64) -> u64
-    requires { x ≤ greatestRoot * greatestRoot }
+    requires { x ≤ greatest_root * greatest_root }
     ensures { (result * result ≤ x) × (x < (result + 1) * (result + 1)) }
 {
     let mut root = first(x);
@@ -21,8 +21,8 @@ pub fn whole_root(x: u64) -> u64
 
 // A guess that is not below the root.
 fn first(x: u64) -> u64
-    requires { x ≤ greatestRoot * greatestRoot }
-    ensures { (x < (result + 1) * (result + 1)) × (result ≤ greatestRoot) }
+    requires { x ≤ greatest_root * greatest_root }
+    ensures { (x < (result + 1) * (result + 1)) × (result ≤ greatest_root) }
 {
     let guess = step(x, start(x));
     if guess > GREATEST_ROOT {
@@ -42,7 +42,7 @@ fn step(x: u64, guess: u64) -> u64
 // A number near the root: x has about twice `half` bits, and this is Newton's step from 2^half, by a shift in place of a
 // division. Any number above 0 would do, so nothing else is promised of it.
 fn start(x: u64) -> u64
-    requires { x ≤ greatestRoot * greatestRoot }
+    requires { x ≤ greatest_root * greatest_root }
     ensures { (0 < result) × (result ≤ strongest) }
 {
     let half = (64 - u64::leading_zeros(x)) / 2;

@@ -1,7 +1,7 @@
 // The root s of an ionic strength, in multiples of 10^-6.
 ghost use Rattle.std.specs.Prelude.{◌≡◌, ◌+◌, ◌≤◌, ltb};
-ghost use Rattle.activity.specs.Strength.{square, strongest, lowerRoot, upperRoot};
-ghost use Rattle.activity.specs.Steps.{greatestRoot};
+ghost use Rattle.activity.specs.Strength.{square, strongest, lower_root, upper_root};
+ghost use Rattle.activity.specs.Steps.{greatest_root};
 
 use crate::newton;
 
@@ -12,8 +12,8 @@ const SQUARE: u64 = 2000;
 // 2,000th of it, rounded down.
 pub fn lower(strength: u64) -> u64
     requires { strength ≤ strongest }
-    ensures answer { result ≡ lowerRoot strength }
-    ensures small { result ≤ greatestRoot }
+    ensures answer { result ≡ lower_root strength }
+    ensures small { result ≤ greatest_root }
 {
     newton::whole_root(strength / SQUARE)
 }
@@ -22,9 +22,9 @@ pub fn lower(strength: u64) -> u64
 // the one before it where no reading is below its limit, since hydrogen leaves the two strengths at most 1 apart. Then no
 // root need be found again.
 pub fn upper(strength: u64, near: u64) -> u64
-    requires { (strength ≤ strongest) × (near ≤ greatestRoot) }
-    ensures answer { result ≡ upperRoot strength }
-    ensures small { result ≤ greatestRoot }
+    requires { (strength ≤ strongest) × (near ≤ greatest_root) }
+    ensures answer { result ≡ upper_root strength }
+    ensures small { result ≤ greatest_root }
 {
     if is_below(near, strength) && !is_below(near + 1, strength) {
         return near + 1;
@@ -38,7 +38,7 @@ pub fn upper(strength: u64, near: u64) -> u64
 
 // Whether the square of k multiples is below the strength.
 fn is_below(k: u64, strength: u64) -> bool
-    requires { k ≤ greatestRoot + 1 }
+    requires { k ≤ greatest_root + 1 }
     ensures { result ≡ ltb (square k) strength }
 {
     SQUARE * (k * k) < strength

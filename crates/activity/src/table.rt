@@ -1,14 +1,14 @@
 // An entry of the table of floors.
 ghost use Rattle.std.specs.Prelude.{◌≡◌, ◌+◌, ◌*◌, ◌≤◌, ◌<◌};
-ghost use Rattle.activity.specs.Floors.{floorAt};
-ghost use Rattle.activity.specs.Steps.{tableLength, rowLength, floorsFrom};
+ghost use Rattle.activity.specs.Floors.{floor_at};
+ghost use Rattle.activity.specs.Steps.{table_length, row_length, floors_from};
 
 use crate::rows;
 
 // The floor of 10^(9 - e), for e in thousandths.
 pub fn floor(e: u64) -> u64
-    requires { e < tableLength }
-    ensures { result ≡ floorAt e }
+    requires { e < table_length }
+    ensures { result ≡ floor_at e }
 {
     let row = row(e / rows::ROW as u64);
     let column = e as usize % rows::ROW;
@@ -18,8 +18,8 @@ pub fn floor(e: u64) -> u64
 // A row by its number. A const array is built anew wherever it is read; a match whose arms are short rows becomes
 // read-only data.
 fn row(number: u64) -> [u64; rows::ROW]
-    requires { rowLength * number + rowLength ≤ tableLength }
-    ensures { result ≡ floorsFrom (rowLength * number) rowLength }
+    requires { row_length * number + row_length ≤ table_length }
+    ensures { result ≡ floors_from (row_length * number) row_length }
 {
     match number {
         0 => rows::FROM_0,

@@ -4,43 +4,43 @@ use Rattle.refusal.specs.Outcome.{Outcome}
 use Rattle.refusal.specs.Outcome.Outcome.{given, refused}
 use Rattle.refusal.specs.Numbers.{number_of}
 use Rattle.reading.specs.declared.Reading.{Reading}
-use Rattle.reading.specs.Analytes.{present, massOf}
+use Rattle.reading.specs.Analytes.{present, mass_of}
 use Rattle.agreement.specs.declared.Agreement.{Agreement}
 use Rattle.agreement.specs.declared.Agreement.TheVariants as agreement
-use Rattle.record.specs.Record.{phOf, conductivityOf, alkalinityOf, ions, readingAt, all_below, accepted}
+use Rattle.record.specs.Record.{ph_of, conductivity_of, alkalinity_of, ions, reading_at, all_below, accepted}
 use Rattle.refusal.specs.Differences.{apart}
 
 -- whether they agree, or the number of a refusal
-abbrev pub agreementOutcome : Agreement → Outcome Bool
-agreementOutcome agreement.Agree = given true
-agreementOutcome agreement.Differ = given false
-agreementOutcome (agreement.Refused why) = refused (number_of why)
+abbrev pub agreement_outcome : Agreement → Outcome Bool
+agreement_outcome agreement.Agree = given true
+agreement_outcome agreement.Differ = given false
+agreement_outcome (agreement.Refused why) = refused (number_of why)
 
 -- 'p differs by at most 10'
-unfoldable pub phAgrees : ℕ → ℕ → Bool
-phAgrees p q = leb (apart p q) 10
+unfoldable pub ph_agrees : ℕ → ℕ → Bool
+ph_agrees p q = leb (apart p q) 10
 
 -- 'ten times the difference is at most the larger'
-unfoldable pub agreesBy : ℕ → ℕ → Bool
-agreesBy x y = leb (10 * apart x y) (max x y)
+unfoldable pub agrees_by : ℕ → ℕ → Bool
+agrees_by x y = leb (10 * apart x y) (max x y)
 
 -- 'missing agrees only with missing'; else by amounts, a below reading's being that of half its limit: document 02 (vi), 'docket agreement
 -- still use the half'
-unfoldable pub readingAgrees : Reading → Reading → Bool
-readingAgrees r q = cond (present r) (cond (present q) (agreesBy (massOf r) (massOf q)) false) (not (present q))
+unfoldable pub reading_agrees : Reading → Reading → Bool
+reading_agrees r q = cond (present r) (cond (present q) (agrees_by (mass_of r) (mass_of q)) false) (not (present q))
 
-abbrev pub ionAgrees : List ℕ → List ℕ → ℕ → Bool
-ionAgrees s t i = readingAgrees (readingAt s i) (readingAt t i)
+abbrev pub ion_agrees : List ℕ → List ℕ → ℕ → Bool
+ion_agrees s t i = reading_agrees (reading_at s i) (reading_at t i)
 
 -- 'p differs by at most 10 and conductivity, alkalinity and each of the eight ions' amounts differ by at most a tenth of the larger'
 unfoldable pub agrees : List ℕ → List ℕ → Bool
 agrees s t =
-    cond (phAgrees (phOf s) (phOf t))
-    (cond (agreesBy (conductivityOf s) (conductivityOf t))
-    (cond (agreesBy (alkalinityOf s) (alkalinityOf t)) (all_below (ionAgrees s t) ions) false)
+    cond (ph_agrees (ph_of s) (ph_of t))
+    (cond (agrees_by (conductivity_of s) (conductivity_of t))
+    (cond (agrees_by (alkalinity_of s) (alkalinity_of t)) (all_below (ion_agrees s t) ions) false)
     false)
     false
 
 -- of any two slices: the first is tested, then the second
-unfoldable pub agreementOf : List ℕ → List ℕ → Outcome Bool
-agreementOf s t = accepted s (accepted t (given (agrees s t)))
+unfoldable pub agreement_of : List ℕ → List ℕ → Outcome Bool
+agreement_of s t = accepted s (accepted t (given (agrees s t)))

@@ -2,14 +2,14 @@
 // made that could be too large.
 ghost use Rattle.std.specs.Prelude.{◌≡◌};
 ghost use Rattle.record.specs.Record.{ions, all_below};
-ghost use Rattle.agreement.specs.Agreement.{phAgrees, agreesBy};
-ghost use Rattle.agreement.specs.Compared.{analytesAgree, ionsAgreeAt, agreesIn};
+ghost use Rattle.agreement.specs.Agreement.{ph_agrees, agrees_by};
+ghost use Rattle.agreement.specs.Compared.{analytes_agree, ions_agree_at, agrees_in};
 
 use reading::Analyte;
 use record::{IONS, READINGS, TestedRecord};
 
 pub fn agrees(one: TestedRecord, other: TestedRecord) -> bool
-    ensures { result ≡ agreesIn one other }
+    ensures { result ≡ agrees_in one other }
 {
     if !ph_agrees(one.ph, other.ph) {
         return false;
@@ -26,7 +26,7 @@ pub fn agrees(one: TestedRecord, other: TestedRecord) -> bool
 }
 
 fn ph_agrees(p: u32, q: u32) -> bool
-    ensures { result ≡ phAgrees p q }
+    ensures { result ≡ ph_agrees p q }
 {
     if p < q {
         return q - p <= 10;
@@ -36,7 +36,7 @@ fn ph_agrees(p: u32, q: u32) -> bool
 
 // Apart by at most a tenth of the larger.
 fn agrees_by(x: u64, y: u64) -> bool
-    ensures { result ≡ agreesBy x y }
+    ensures { result ≡ agrees_by x y }
 {
     if x < y {
         return y - x <= y / 10;
@@ -45,7 +45,7 @@ fn agrees_by(x: u64, y: u64) -> bool
 }
 
 fn ions_agree(a: [Analyte; READINGS], b: [Analyte; READINGS]) -> bool
-    ensures { result ≡ all_below (ionsAgreeAt a b) ions }
+    ensures { result ≡ all_below (ions_agree_at a b) ions }
 {
     let mut i: usize = 0;
     while i < IONS {
@@ -61,7 +61,7 @@ fn ions_agree(a: [Analyte; READINGS], b: [Analyte; READINGS]) -> bool
 
 // Missing agrees only with missing.
 fn readings_agree(first: Analyte, second: Analyte) -> bool
-    ensures { result ≡ analytesAgree first second }
+    ensures { result ≡ analytes_agree first second }
 {
     if !first.is_present() {
         return !second.is_present();

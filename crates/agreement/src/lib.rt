@@ -2,9 +2,9 @@
 mod comparison;
 
 ghost use Rattle.std.specs.Prelude.{◌≡◌};
-ghost use Rattle.record.specs.Tested.{termsOf};
-ghost use Rattle.agreement.specs.Agreement.{agreementOutcome, agreementOf};
-ghost use Rattle.agreement.specs.Compared.{comparedOf};
+ghost use Rattle.record.specs.Tested.{terms_of};
+ghost use Rattle.agreement.specs.Agreement.{agreement_outcome, agreement_of};
+ghost use Rattle.agreement.specs.Compared.{compared_of};
 
 use record::{Tested, TestedRecord};
 use refusal::Refusal;
@@ -19,7 +19,7 @@ pub enum Agreement {
 
 // Whether two slices are records that agree. The first is refused before the second.
 pub fn agree(first: &[u32], second: &[u32]) -> Agreement
-    ensures { agreementOutcome result ≡ agreementOf first.now second.now }
+    ensures { agreement_outcome result ≡ agreement_of first.now second.now }
 {
     let one = record::test(first);
     let other = record::test(second);
@@ -28,7 +28,7 @@ pub fn agree(first: &[u32], second: &[u32]) -> Agreement
 
 // Whether two records agree, by how their own tests ended and the fields that these hand on. It takes any fields.
 pub fn compare(one: TestedRecord, other: TestedRecord) -> Agreement
-    ensures { agreementOutcome result ≡ comparedOf (termsOf one) (termsOf other) }
+    ensures { agreement_outcome result ≡ compared_of (terms_of one) (terms_of other) }
 {
     let tested = one.tested;
     if let Tested::Refused(why) = tested {

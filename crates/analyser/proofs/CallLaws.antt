@@ -8,13 +8,13 @@ use Rattle.refusal.specs.declared.Refusal.TheVariants as refusal
 use Rattle.refusal.specs.Numbers.{number_of}
 use Rattle.refusal.specs.Outcome.{Outcome}
 use Rattle.refusal.specs.Outcome.Outcome.{given, refused}
-use Rattle.refusal.specs.Lent.{fitting, lentAfter, length_of}
+use Rattle.refusal.specs.Lent.{fitting, lent_after, length_of}
 use Rattle.refusal.proofs.LentLaws.{too_short, written}
-use Rattle.analyser.specs.Codes.{code_of, sizeAfter, toldSize}
+use Rattle.analyser.specs.Codes.{code_of, size_after, told_size}
 
 -- the returned code, and the slice after the call, which held old before
 abbrev pub Called : Outcome (List ℕ) → List ℕ → ℕ → List ℕ → Type 0
-Called o old code after = (code ≡ code_of o) × (after ≡ lentAfter o old)
+Called o old code after = (code ≡ code_of o) × (after ≡ lent_after o old)
 
 module _ (old : List ℕ) {o : Outcome (List ℕ)} {code : ℕ} where
   pub same_answer : {o' : Outcome (List ℕ)} {after : List ℕ} → o ≡ o' → Called o' old code after → Called o old code after
@@ -34,9 +34,9 @@ written-code (given answer) e f = e ∙ ap code_of f
 written-code (refused n) e f = e ∙ ap code_of f
 
 -- and a length told beside it
-pub written-size : (o : Outcome (List ℕ)) {w : Outcome ℕ} {size : ℕ} (old : ℕ) → size ≡ toldSize w old → w ≡ length_of o → size ≡ sizeAfter o old
-written-size (given answer) old e f = e ∙ ap (λ (x : Outcome ℕ). toldSize x old) f
-written-size (refused n) old e f = e ∙ ap (λ (x : Outcome ℕ). toldSize x old) f
+pub written-size : (o : Outcome (List ℕ)) {w : Outcome ℕ} {size : ℕ} (old : ℕ) → size ≡ told_size w old → w ≡ length_of o → size ≡ size_after o old
+written-size (given answer) old e f = e ∙ ap (λ (x : Outcome ℕ). told_size x old) f
+written-size (refused n) old e f = e ∙ ap (λ (x : Outcome ℕ). told_size x old) f
 
 -- an answer is lent where it fits
 module _ (answer old : List ℕ) where

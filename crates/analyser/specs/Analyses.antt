@@ -4,25 +4,25 @@ use Rattle.refusal.specs.Outcome.{Outcome}
 use Rattle.refusal.specs.Outcome.Outcome.{given}
 use Rattle.reading.specs.declared.Reading.{Reading}
 use Rattle.reading.specs.declared.Words.{Words}
-use Rattle.reading.specs.Readings.{analysedOf, words_of}
-use Rattle.judge.specs.Judgements.{Four, judgementOf}
+use Rattle.reading.specs.Readings.{analysed_of, words_of}
+use Rattle.judge.specs.Judgements.{Four, judgement_of}
 use Rattle.analyser.specs.Codes.{and_then}
 
 -- the numbers of the four verdicts, in document 01's order
-abbrev pub fourWords : Four → List ℕ
-fourWords v = v.balance ∷ v.conductivity ∷ v.ratio ∷ v.nitrogen ∷ []
+abbrev pub four_words : Four → List ℕ
+four_words v = v.balance ∷ v.conductivity ∷ v.ratio ∷ v.nitrogen ∷ []
 
 -- a record: 'its verdicts', or the number of the first of its own tests, 1 to 7, that refuses it
-unfoldable pub judgedWords : List ℕ → Outcome (List ℕ)
-judgedWords s = and_then (judgementOf s) (λ (v : Four). given (fourWords v))
+unfoldable pub judged_words : List ℕ → Outcome (List ℕ)
+judged_words s = and_then (judgement_of s) (λ (v : Four). given (four_words v))
 
 -- 'a mark and the bits of an f32'
 abbrev pub pair_of : Words → List ℕ
 pair_of w = w.mark ∷ w.bits ∷ []
 
-unfoldable pub readingWords : Reading → Outcome (List ℕ)
-readingWords r = and_then (words_of r) (λ (w : Words). given (pair_of w))
+unfoldable pub reading_words : Reading → Outcome (List ℕ)
+reading_words r = and_then (words_of r) (λ (w : Words). given (pair_of w))
 
 -- 'the analyser itself holds a float value and a float limit for each reading': the reading that they become, as a record has it
-unfoldable pub analysedWords : Float → Float → Outcome (List ℕ)
-analysedWords value limit = and_then (analysedOf value limit) readingWords
+unfoldable pub analysed_words : Float → Float → Outcome (List ℕ)
+analysed_words value limit = and_then (analysed_of value limit) reading_words

@@ -14,11 +14,11 @@ and_then (given x) next = next x
 and_then (refused n) next = refused n
 
 -- a length that is told beside the code: that of the answer, and after a refusal what stood there
-abbrev pub sizeAfter : Outcome (List ℕ) → ℕ → ℕ
-sizeAfter (given answer) old = length answer
-sizeAfter (refused n) old = old
+abbrev pub size_after : Outcome (List ℕ) → ℕ → ℕ
+size_after (given answer) old = length answer
+size_after (refused n) old = old
 
 -- the same, by how long an answer is
-abbrev pub toldSize : Outcome ℕ → ℕ → ℕ
-toldSize (given n) old = n
-toldSize (refused n) old = old
+abbrev pub told_size : Outcome ℕ → ℕ → ℕ
+told_size (given n) old = n
+told_size (refused n) old = old

@@ -5,28 +5,28 @@ use Rattle.refusal.specs.Outcome.{Outcome, demand}
 use Rattle.refusal.specs.Outcome.Outcome.{given, refused}
 use Rattle.refusal.specs.Numbers.{number_of}
 use Rattle.refusal.specs.declared.Refusal.TheVariants as refusal
-use Rattle.record.specs.Record.{recordWords}
+use Rattle.record.specs.Record.{record_words}
 use Rattle.docket.specs.Terms.{Standing, DocketTerms}
 use Rattle.docket.specs.Terms.Standing.{«open», consistent, confirmed, unsettled}
 use Rattle.analyser.specs.Codes.{and_then}
 
 -- 'open, consistent, confirmed or unsettled'
-abbrev pub standingNumber : Standing → ℕ
-standingNumber «open» = 0
-standingNumber consistent = 1
-standingNumber confirmed = 2
-standingNumber unsettled = 3
+abbrev pub standing_number : Standing → ℕ
+standing_number «open» = 0
+standing_number consistent = 1
+standing_number confirmed = 2
+standing_number unsettled = 3
 
-abbrev pub docketWords : DocketTerms → List ℕ
-docketWords d = standingNumber d.state ∷ d.count ∷ d.held
+abbrev pub docket_words : DocketTerms → List ℕ
+docket_words d = standing_number d.state ∷ d.count ∷ d.held
 
 -- as many as that
-abbrev pub docketLength : ℕ
-docketLength = 2 + recordWords
+abbrev pub docket_length : ℕ
+docket_length = 2 + record_words
 
 -- the way back: no offers produce a state of another number, so it is refused 11
-unfoldable pub standingFrom : ℕ → Outcome Standing
-standingFrom n =
+unfoldable pub standing_from : ℕ → Outcome Standing
+standing_from n =
     cond (eqb n 0) (given «open»)
     (cond (eqb n 1) (given consistent)
     (cond (eqb n 2) (given confirmed)
@@ -34,13 +34,13 @@ standingFrom n =
     (refused (number_of refusal.DocketClosed)))))
 
 -- where the docket of a lent slice stands; a slice that is too short for a docket is refused 13
-unfoldable pub standingIn : List ℕ → Outcome Standing
-standingIn lent = demand (leb docketLength (length lent)) (number_of refusal.OutputLength) (standingFrom (get_or lent 0 0))
+unfoldable pub standing_in : List ℕ → Outcome Standing
+standing_in lent = demand (leb docket_length (length lent)) (number_of refusal.OutputLength) (standing_from (get_or lent 0 0))
 
 -- a docket that stands there, with the count and the record of a lent slice
-abbrev pub docketAt : Standing → List ℕ → DocketTerms
-docketAt state lent = record { state = state; count = get_or lent 1 0; held = take recordWords (drop 2 lent) }
+abbrev pub docket_at : Standing → List ℕ → DocketTerms
+docket_at state lent = record { state = state; count = get_or lent 1 0; held = take record_words (drop 2 lent) }
 
 -- the docket that a lent slice holds in its first words
-unfoldable pub docketFrom : List ℕ → Outcome DocketTerms
-docketFrom lent = and_then (standingIn lent) (λ (state : Standing). given (docketAt state lent))
+unfoldable pub docket_from : List ℕ → Outcome DocketTerms
+docket_from lent = and_then (standing_in lent) (λ (state : Standing). given (docket_at state lent))

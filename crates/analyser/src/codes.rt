@@ -1,13 +1,13 @@
 // What a call returns to a program in C.
 ghost use Rattle.std.specs.Prelude.{◌≡◌};
-ghost use Rattle.refusal.specs.Lent.{writtenOutcome};
-ghost use Rattle.analyser.specs.Codes.{code_of, toldSize};
+ghost use Rattle.refusal.specs.Lent.{written_outcome};
+ghost use Rattle.analyser.specs.Codes.{code_of, told_size};
 
 use refusal::Written;
 
 // Of a call that writes to a lent slice: 0, or the number of the refusal.
 pub fn of_written(written: Written) -> u32
-    ensures { result ≡ code_of (writtenOutcome written) }
+    ensures { result ≡ code_of (written_outcome written) }
 {
     match written {
         Written::Length(_) => 0,
@@ -17,8 +17,8 @@ pub fn of_written(written: Written) -> u32
 
 // The same, and how long the answer is into `size`, which a refusal leaves as it was.
 pub fn with_size(written: Written, size: &mut usize) -> u32
-    ensures code { result ≡ code_of (writtenOutcome written) }
-    ensures size { size.new ≡ toldSize (writtenOutcome written) size.old }
+    ensures code { result ≡ code_of (written_outcome written) }
+    ensures size { size.new ≡ told_size (written_outcome written) size.old }
 {
     match written {
         Written::Length(n) => {

@@ -1,12 +1,12 @@
 // The words of a docket: where it stands, its count, and the words of its last record.
 ghost use Rattle.std.specs.Prelude.{◌≡◌, ◌≤◌, length, get_or};
 ghost use Rattle.refusal.specs.Outcome.Outcome.{given};
-ghost use Rattle.refusal.specs.Lent.{fitting, lentAfter};
-ghost use Rattle.record.specs.Record.{recordWords};
-ghost use Rattle.docket.specs.Terms.{standingOf, docketOf};
+ghost use Rattle.refusal.specs.Lent.{fitting, lent_after};
+ghost use Rattle.record.specs.Record.{record_words};
+ghost use Rattle.docket.specs.Terms.{standing_of, docket_of};
 ghost use Rattle.analyser.specs.Codes.{code_of};
-ghost use Rattle.analyser.specs.DocketWords.{standingNumber, docketWords, docketLength, docketAt};
-ghost use Rattle.analyser.specs.Steps.{standingRead};
+ghost use Rattle.analyser.specs.DocketWords.{standing_number, docket_words, docket_length, docket_at};
+ghost use Rattle.analyser.specs.Steps.{standing_read};
 
 use docket::{Docket, State};
 use record::WORDS;
@@ -24,9 +24,9 @@ pub const LENGTH: usize = RECORD + WORDS;
 // A docket into the first words of a lent slice. How long its record is, is said for the callers: where the docket is an
 // answer, they do not know it.
 pub fn lend(docket: Docket, lent: &mut [u32]) -> u32
-    ensures code { result ≡ code_of (fitting (length lent.old) (given (docketWords (docketOf docket)))) }
-    ensures after { lent.new ≡ lentAfter (fitting (length lent.old) (given (docketWords (docketOf docket)))) lent.old }
-    ensures whole { length (docketOf docket).held ≡ recordWords }
+    ensures code { result ≡ code_of (fitting (length lent.old) (given (docket_words (docket_of docket)))) }
+    ensures after { lent.new ≡ lent_after (fitting (length lent.old) (given (docket_words (docket_of docket)))) lent.old }
+    ensures whole { length (docket_of docket).held ≡ record_words }
 {
     if lent.len() < LENGTH {
         return Refusal::OutputLength.number();
@@ -41,8 +41,8 @@ pub fn lend(docket: Docket, lent: &mut [u32]) -> u32
 
 // The docket of a lent slice.
 pub fn docket_at(lent: &[u32]) -> Docket
-    requires { docketLength ≤ length lent.now }
-    ensures { docketOf result ≡ docketAt (standingRead (get_or lent.now 0 0)) lent.now }
+    requires { docket_length ≤ length lent.now }
+    ensures { docket_of result ≡ docket_at (standing_read (get_or lent.now 0 0)) lent.now }
 {
     let mut held = [0u32; WORDS];
     words::place(&lent[RECORD..LENGTH], &mut held, 0);
@@ -55,7 +55,7 @@ pub fn docket_at(lent: &[u32]) -> Docket
 
 // The number of a state.
 fn number(state: State) -> u32
-    ensures { result ≡ standingNumber (standingOf state) }
+    ensures { result ≡ standing_number (standing_of state) }
 {
     match state {
         State::Open => 0,
@@ -67,7 +67,7 @@ fn number(state: State) -> u32
 
 // The state of a number. Any above 3 is none, and is read as a closed one: an offer to either is refused alike.
 fn state(number: u32) -> State
-    ensures { standingOf result ≡ standingRead number }
+    ensures { standing_of result ≡ standing_read number }
 {
     match number {
         0 => State::Open,

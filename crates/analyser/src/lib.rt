@@ -9,15 +9,15 @@ mod reading_words;
 mod verdict_words;
 
 ghost use Rattle.std.specs.Prelude.{◌≡◌, length};
-ghost use Rattle.refusal.specs.Lent.{fitting, lentAfter};
-ghost use Rattle.chart.specs.Charts.{signalsOf};
+ghost use Rattle.refusal.specs.Lent.{fitting, lent_after};
+ghost use Rattle.chart.specs.Charts.{signals_of};
 ghost use Rattle.refusal.specs.Outcome.Outcome.{given};
-ghost use Rattle.batch.specs.Rows.{batchAnswer};
-ghost use Rattle.listing.specs.Listing.{listText};
-ghost use Rattle.joining.specs.Joins.{joinedOf};
-ghost use Rattle.analyser.specs.Codes.{code_of, sizeAfter};
-ghost use Rattle.analyser.specs.Analyses.{judgedWords, analysedWords};
-ghost use Rattle.analyser.specs.LentDockets.{FreshLent, offeredWords, LentLaws};
+ghost use Rattle.batch.specs.Rows.{batch_answer};
+ghost use Rattle.listing.specs.Listing.{list_text};
+ghost use Rattle.joining.specs.Joins.{joined_of};
+ghost use Rattle.analyser.specs.Codes.{code_of, size_after};
+ghost use Rattle.analyser.specs.Analyses.{judged_words, analysed_words};
+ghost use Rattle.analyser.specs.LentDockets.{FreshLent, offered_words, LentLaws};
 
 use docket::Answer;
 use judge::Judgement;
@@ -26,8 +26,8 @@ use reading::{Analysed, ReadingResult};
 // Judges a record: the numbers of its four verdicts.
 #[unsafe(no_mangle)]
 pub extern "C" fn peltquarry_judge(words: &[u32], verdicts: &mut [u32]) -> u32
-    ensures code { result ≡ code_of (fitting (length verdicts.old) (judgedWords words.now)) }
-    ensures lent { verdicts.new ≡ lentAfter (fitting (length verdicts.old) (judgedWords words.now)) verdicts.old }
+    ensures code { result ≡ code_of (fitting (length verdicts.old) (judged_words words.now)) }
+    ensures lent { verdicts.new ≡ lent_after (fitting (length verdicts.old) (judged_words words.now)) verdicts.old }
 {
     match judge::judge(words) {
         Judgement::Judged(four) => {
@@ -41,8 +41,8 @@ pub extern "C" fn peltquarry_judge(words: &[u32], verdicts: &mut [u32]) -> u32
 // The two words of a reading in a record, from the analyser's value and quantification limit.
 #[unsafe(no_mangle)]
 pub extern "C" fn peltquarry_reading(value: f32, limit: f32, words: &mut [u32]) -> u32
-    ensures code { result ≡ code_of (fitting (length words.old) (analysedWords value limit)) }
-    ensures lent { words.new ≡ lentAfter (fitting (length words.old) (analysedWords value limit)) words.old }
+    ensures code { result ≡ code_of (fitting (length words.old) (analysed_words value limit)) }
+    ensures lent { words.new ≡ lent_after (fitting (length words.old) (analysed_words value limit)) words.old }
 {
     let analysed = Analysed {
         value: value,
@@ -66,8 +66,8 @@ pub extern "C" fn peltquarry_fresh(docket: &mut [u32]) -> u32
 // Offers a record to a docket lent as words. Where it is taken, they become those of the docket after it.
 #[unsafe(no_mangle)]
 pub extern "C" fn peltquarry_offer(docket: &mut [u32], words: &[u32]) -> u32
-    ensures code { result ≡ code_of (offeredWords docket.old words.now) }
-    ensures lent { docket.new ≡ lentAfter (offeredWords docket.old words.now) docket.old }
+    ensures code { result ≡ code_of (offered_words docket.old words.now) }
+    ensures lent { docket.new ≡ lent_after (offered_words docket.old words.now) docket.old }
     ensures laws { LentLaws }
 {
     if docket.len() < docket_words::LENGTH {
@@ -85,8 +85,8 @@ pub extern "C" fn peltquarry_offer(docket: &mut [u32], words: &[u32]) -> u32
 // Reads a control chart: a signal word for each later value.
 #[unsafe(no_mangle)]
 pub extern "C" fn peltquarry_signals(setup: &[u32], later: &[u32], signals: &mut [u32]) -> u32
-    ensures code { result ≡ code_of (fitting (length signals.old) (signalsOf setup.now later.now)) }
-    ensures lent { signals.new ≡ lentAfter (fitting (length signals.old) (signalsOf setup.now later.now)) signals.old }
+    ensures code { result ≡ code_of (fitting (length signals.old) (signals_of setup.now later.now)) }
+    ensures lent { signals.new ≡ lent_after (fitting (length signals.old) (signals_of setup.now later.now)) signals.old }
 {
     codes::of_written(chart::signals(setup, later, signals))
 }
@@ -94,8 +94,8 @@ pub extern "C" fn peltquarry_signals(setup: &[u32], later: &[u32], signals: &mut
 // Judges a batch: the sample count, then a row a sample.
 #[unsafe(no_mangle)]
 pub extern "C" fn peltquarry_batch(words: &[u32], answer: &mut [u32]) -> u32
-    ensures code { result ≡ code_of (fitting (length answer.old) (batchAnswer words.now)) }
-    ensures lent { answer.new ≡ lentAfter (fitting (length answer.old) (batchAnswer words.now)) answer.old }
+    ensures code { result ≡ code_of (fitting (length answer.old) (batch_answer words.now)) }
+    ensures lent { answer.new ≡ lent_after (fitting (length answer.old) (batch_answer words.now)) answer.old }
 {
     codes::of_written(batch::judge_batch(words, answer))
 }
@@ -108,9 +108,9 @@ pub extern "C" fn peltquarry_join(
     joined: &mut [u32],
     size: &mut usize,
 ) -> u32
-    ensures code { result ≡ code_of (fitting (length joined.old) (joinedOf first.now second.now)) }
-    ensures lent { joined.new ≡ lentAfter (fitting (length joined.old) (joinedOf first.now second.now)) joined.old }
-    ensures size { size.new ≡ sizeAfter (fitting (length joined.old) (joinedOf first.now second.now)) size.old }
+    ensures code { result ≡ code_of (fitting (length joined.old) (joined_of first.now second.now)) }
+    ensures lent { joined.new ≡ lent_after (fitting (length joined.old) (joined_of first.now second.now)) joined.old }
+    ensures size { size.new ≡ size_after (fitting (length joined.old) (joined_of first.now second.now)) size.old }
 {
     codes::with_size(joining::join(first, second, joined), size)
 }
@@ -118,9 +118,9 @@ pub extern "C" fn peltquarry_join(
 // The text of the listing of a batch lent as bytes; its length into `size`.
 #[unsafe(no_mangle)]
 pub extern "C" fn peltquarry_list(bytes: &[u8], text: &mut [u8], size: &mut usize) -> u32
-    ensures code { result ≡ code_of (fitting (length text.old) (given (listText bytes.now))) }
-    ensures lent { text.new ≡ lentAfter (fitting (length text.old) (given (listText bytes.now))) text.old }
-    ensures size { size.new ≡ sizeAfter (fitting (length text.old) (given (listText bytes.now))) size.old }
+    ensures code { result ≡ code_of (fitting (length text.old) (given (list_text bytes.now))) }
+    ensures lent { text.new ≡ lent_after (fitting (length text.old) (given (list_text bytes.now))) text.old }
+    ensures size { size.new ≡ size_after (fitting (length text.old) (given (list_text bytes.now))) size.old }
 {
     codes::with_size(listing::list(bytes, text), size)
 }

@@ -1,7 +1,7 @@
 // The words of the four verdicts.
 ghost use Rattle.std.specs.Prelude.{◌≡◌};
-ghost use Rattle.judge.specs.Judgements.{numbersOf};
-ghost use Rattle.analyser.specs.Analyses.{fourWords};
+ghost use Rattle.judge.specs.Judgements.{numbers_of};
+ghost use Rattle.analyser.specs.Analyses.{four_words};
 
 use judge::Verdicts;
 
@@ -10,7 +10,7 @@ const CHECKS: usize = 4;
 
 // Their numbers, in document 01's order.
 pub fn numbers(verdicts: Verdicts) -> [u32; CHECKS]
-    ensures { result ≡ fourWords (numbersOf verdicts) }
+    ensures { result ≡ four_words (numbers_of verdicts) }
 {
     let balance = verdicts.balance;
     let conductivity = verdicts.conductivity;

@@ -1,6 +1,6 @@
 // Which bytes hold a batch: whole words, and no more of them than the longest batch has.
 ghost use Rattle.std.specs.Prelude.{◌≡◌};
-ghost use Rattle.batch.specs.Input.{isInput};
+ghost use Rattle.batch.specs.Input.{is_input};
 
 use crate::MOST_SAMPLES;
 use chart_section::{MOST_CHART, MOST_CHARTS};
@@ -13,7 +13,7 @@ pub const MOST_WORDS: usize = (1 + MOST_CHARTS * MOST_CHART) + (1 + MOST_SAMPLES
 pub const MOST_BYTES: usize = WORD_BYTES * MOST_WORDS;
 
 pub fn is_input(bytes: &[u8]) -> bool
-    ensures { result ≡ isInput bytes.now }
+    ensures { result ≡ is_input bytes.now }
 {
     if bytes.len() % WORD_BYTES != 0 {
         return false;

@@ -6,12 +6,12 @@ mod testing;
 pub mod widths;
 
 ghost use Rattle.std.specs.Prelude.{◌≡◌, length};
-ghost use Rattle.refusal.specs.Lent.{fitting, length_of, lentAfter, writtenOutcome};
-ghost use Rattle.judge.specs.Repeats.{acceptanceOutcome};
+ghost use Rattle.refusal.specs.Lent.{fitting, length_of, lent_after, written_outcome};
+ghost use Rattle.judge.specs.Repeats.{acceptance_outcome};
 ghost use Rattle.batch.specs.Batches.{test_of};
-ghost use Rattle.batch.specs.Rows.{batchAnswer};
+ghost use Rattle.batch.specs.Rows.{batch_answer};
 ghost use Rattle.batch.specs.Layout.{LayoutLaws};
-ghost use Rattle.batch.specs.Steps.{samplesAnswer};
+ghost use Rattle.batch.specs.Steps.{samples_answer};
 
 use chart_section::Ended;
 use judge::Acceptance;
@@ -30,8 +30,8 @@ pub const MOST_ANSWER: usize = 1 + MOST_SAMPLES * ROW_WORDS;
 // Judges a batch, and writes the answer to the start of the lent slice. After a refusal that is as it was. The third promise
 // says that what was read of a batch is all that its words say, and that every batch can be read from its words.
 pub fn judge_batch(words: &[u32], out: &mut [u32]) -> Written
-    ensures answer { writtenOutcome result ≡ length_of (fitting (length out.old) (batchAnswer words.now)) }
-    ensures lent { out.new ≡ lentAfter (fitting (length out.old) (batchAnswer words.now)) out.old }
+    ensures answer { written_outcome result ≡ length_of (fitting (length out.old) (batch_answer words.now)) }
+    ensures lent { out.new ≡ lent_after (fitting (length out.old) (batch_answer words.now)) out.old }
     ensures layout { LayoutLaws }
 {
     let read = chart_section::read(words);
@@ -51,8 +51,8 @@ pub fn judge_batch(words: &[u32], out: &mut [u32]) -> Written
 // written only when nothing can be refused any more.
 fn judge_samples(words: &[u32], elements: &[u32], signals: &[u32], out: &mut [u32]) -> Written
     requires { length elements.now ≡ length signals.now }
-    ensures answer { writtenOutcome result ≡ length_of (fitting (length out.old) (samplesAnswer elements.now signals.now words.now)) }
-    ensures lent { out.new ≡ lentAfter (fitting (length out.old) (samplesAnswer elements.now signals.now words.now)) out.old }
+    ensures answer { written_outcome result ≡ length_of (fitting (length out.old) (samples_answer elements.now signals.now words.now)) }
+    ensures lent { out.new ≡ lent_after (fitting (length out.old) (samples_answer elements.now signals.now words.now)) out.old }
 {
     let mut buffer = [0u32; MOST_ANSWER];
     match samples::make_rows(words, elements, signals, &mut buffer) {
@@ -69,7 +69,7 @@ fn judge_samples(words: &[u32], elements: &[u32], signals: &[u32], out: &mut [u3
 
 // A batch's own tests alone: nothing is judged.
 pub fn test(words: &[u32]) -> Acceptance
-    ensures { acceptanceOutcome result ≡ test_of words.now }
+    ensures { acceptance_outcome result ≡ test_of words.now }
 {
     let read = chart_section::read(words);
     let ended = read.ended;

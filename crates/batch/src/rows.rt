@@ -1,8 +1,8 @@
 // The rows of an answer.
 ghost use Rattle.std.specs.Prelude.{◌≡◌, ◌&&◌, not, cond, eqb, length};
-ghost use Rattle.record.specs.Tested.{fieldsIn, hasReadingIn};
-ghost use Rattle.judge.specs.Judgements.{numbersOf};
-ghost use Rattle.batch.specs.Steps.{flaggedBy, row_in};
+ghost use Rattle.record.specs.Tested.{fields_in, has_reading_in};
+ghost use Rattle.judge.specs.Judgements.{numbers_of};
+ghost use Rattle.batch.specs.Steps.{flagged_by, row_in};
 
 use crate::ROW_WORDS;
 use judge::Verdicts;
@@ -16,7 +16,7 @@ pub fn row(
     signals: &[u32],
 ) -> [u32; ROW_WORDS]
     requires { length elements.now ≡ length signals.now }
-    ensures { result ≡ row_in own (numbersOf verdicts) elements.now signals.now }
+    ensures { result ≡ row_in own (numbers_of verdicts) elements.now signals.now }
 {
     let parts = number::parts_of(own.number);
     let balance = verdicts.balance;
@@ -43,7 +43,7 @@ fn flag(is_flagged: bool) -> u32
 // Whether some chart has a signal, and its element is not missing in the record.
 fn flagged(own: TestedRecord, elements: &[u32], signals: &[u32]) -> bool
     requires { length elements.now ≡ length signals.now }
-    ensures { result ≡ flaggedBy elements.now signals.now (hasReadingIn (fieldsIn own)) }
+    ensures { result ≡ flagged_by elements.now signals.now (has_reading_in (fields_in own)) }
 {
     let mut i: usize = 0;
     while i < elements.len() {
@@ -56,7 +56,7 @@ fn flagged(own: TestedRecord, elements: &[u32], signals: &[u32]) -> bool
 }
 
 fn flagged_by(own: TestedRecord, element: u32, signal: u32) -> bool
-    ensures { result ≡ (not (eqb signal 0) && hasReadingIn (fieldsIn own) element) }
+    ensures { result ≡ (not (eqb signal 0) && has_reading_in (fields_in own) element) }
 {
     if signal == 0 {
         return false;

@@ -1,8 +1,8 @@
 // The samples of a batch, read from the front and judged.
 ghost use Rattle.std.specs.Prelude.{◌≡◌, ◌≤◌, length, get_or};
-ghost use Rattle.batch.specs.Batches.{mostSamples};
-ghost use Rattle.batch.specs.Rows.{mostAnswer};
-ghost use Rattle.batch.specs.Steps.{samplesAnswer, MadeSaid};
+ghost use Rattle.batch.specs.Batches.{most_samples};
+ghost use Rattle.batch.specs.Rows.{most_answer};
+ghost use Rattle.batch.specs.Steps.{samples_answer, MadeSaid};
 
 use crate::{MOST_SAMPLES, ROW_WORDS, rows};
 use judge::Judgement;
@@ -11,8 +11,8 @@ use refusal::{Refusal, Written};
 // Makes the answer to the samples' section in a buffer: their count, then a row for each. The words are all that is left of
 // the batch. What a refusal leaves in the buffer is of no use.
 pub fn make_rows(words: &[u32], elements: &[u32], signals: &[u32], buffer: &mut [u32]) -> Written
-    requires { (length elements.now ≡ length signals.now) × (length buffer.old ≡ mostAnswer) }
-    ensures { MadeSaid result (samplesAnswer elements.now signals.now words.now) buffer.new }
+    requires { (length elements.now ≡ length signals.now) × (length buffer.old ≡ most_answer) }
+    ensures { MadeSaid result (samples_answer elements.now signals.now words.now) buffer.new }
 {
     if words.len() < 1 {
         return Written::Refused(Refusal::BatchLength);
@@ -34,9 +34,9 @@ fn make_all(
     signals: &[u32],
     buffer: &mut [u32],
 ) -> Written
-    requires elements_len { (length elements.now ≡ length signals.now) × (length buffer.old ≡ mostAnswer) }
-    requires in_bounds { (1 ≤ length words.now) × (get_or words.now 0 0 ≡ count) × (count ≤ mostSamples) × (get_or buffer.old 0 0 ≡ count) }
-    ensures { MadeSaid result (samplesAnswer elements.now signals.now words.now) buffer.new }
+    requires elements_len { (length elements.now ≡ length signals.now) × (length buffer.old ≡ most_answer) }
+    requires in_bounds { (1 ≤ length words.now) × (get_or words.now 0 0 ≡ count) × (count ≤ most_samples) × (get_or buffer.old 0 0 ≡ count) }
+    ensures { MadeSaid result (samples_answer elements.now signals.now words.now) buffer.new }
 {
     let mut at: usize = 1;
     let mut size: usize = 1;

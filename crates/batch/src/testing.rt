@@ -1,8 +1,8 @@
 // A batch's own tests, without judging it.
 ghost use Rattle.std.specs.Prelude.{◌≡◌, ◌≤◌, length, get_or};
-ghost use Rattle.judge.specs.Repeats.{acceptanceOutcome};
-ghost use Rattle.batch.specs.Batches.{mostSamples};
-ghost use Rattle.batch.specs.Steps.{samplesTest};
+ghost use Rattle.judge.specs.Repeats.{acceptance_outcome};
+ghost use Rattle.batch.specs.Batches.{most_samples};
+ghost use Rattle.batch.specs.Steps.{samples_test};
 
 use crate::MOST_SAMPLES;
 use judge::Acceptance;
@@ -10,7 +10,7 @@ use refusal::Refusal;
 
 // Tests the samples' section. The words are all that is left of the batch.
 pub fn test_samples(words: &[u32]) -> Acceptance
-    ensures { acceptanceOutcome result ≡ samplesTest words.now }
+    ensures { acceptance_outcome result ≡ samples_test words.now }
 {
     if words.len() < 1 {
         return Acceptance::Refused(Refusal::BatchLength);
@@ -24,8 +24,8 @@ pub fn test_samples(words: &[u32]) -> Acceptance
 
 // Tests so many samples, after the section's count.
 fn test_all(words: &[u32], count: usize) -> Acceptance
-    requires { (1 ≤ length words.now) × (get_or words.now 0 0 ≡ count) × (count ≤ mostSamples) }
-    ensures { acceptanceOutcome result ≡ samplesTest words.now }
+    requires { (1 ≤ length words.now) × (get_or words.now 0 0 ≡ count) × (count ≤ most_samples) }
+    ensures { acceptance_outcome result ≡ samples_test words.now }
 {
     let mut at: usize = 1;
     let mut i: usize = 0;

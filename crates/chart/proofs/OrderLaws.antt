@@ -7,7 +7,7 @@ use native.Mathlib.Omega.{arith}
 use lib.ListN.{length, get_or, drop, length-drop}
 use lib.Seq.{drop-cons}
 use Rattle.chart.proofs.EveryLaws.{further, at-end}
-use Rattle.chart.specs.Rules.{Course, inStep, ordered}
+use Rattle.chart.specs.Rules.{Course, in_step, ordered}
 
 -- a single value is in order
 short : (course : Course) (l : List ℕ) → length l ≤ 1 → ordered course l ≡ true
@@ -25,7 +25,7 @@ pub none_seen : (course : Course) (l : List ℕ) → Seen course l 1 true
 none_seen course l = record { some = omega arith; whole = refl }
 
 module _ {course : Course} {l : List ℕ} {k : ℕ} {seen : Bool} (s : Seen course l k seen) where
-  pub one_more : k < length l → Seen course l (k + 1) (seen && inStep course (get_or l (k - 1) 0) (get_or l k 0))
+  pub one_more : k < length l → Seen course l (k + 1) (seen && in_step course (get_or l (k - 1) 0) (get_or l k 0))
   unfolding ordered
   one_more h =
       let this : suc (k - 1) ≡ k = omega arith in
@@ -35,7 +35,7 @@ module _ {course : Course} {l : List ℕ} {k : ℕ} {seen : Bool} (s : Seen cour
         some = omega arith;
         whole =
             s.whole
-            ∙ further seen (inStep course (get_or l (k - 1) 0) (get_or l k 0)) (ordered course (drop (k + 1 - 1) l))
+            ∙ further seen (in_step course (get_or l (k - 1) 0) (get_or l k 0)) (ordered course (drop (k + 1 - 1) l))
             (rw (next, drop-cons l (k - 1) 0 b, this, drop-cons l k 0 h));
       }
 

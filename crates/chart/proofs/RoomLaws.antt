@@ -7,17 +7,17 @@ use native.Mathlib.Nat.{mul-le-mul}
 use native.Mathlib.Omega.{arith}
 use lib.ListN.{length, get_or, take, drop}
 use Rattle.refusal.specs.Differences.{apart}
-use Rattle.chart.specs.Values.{allValues, mostSetup}
+use Rattle.chart.specs.Values.{all_values, most_setup}
 use Rattle.chart.proofs.ValueLaws.{values-each}
 use Rattle.chart.specs.declared.setup.Setup.{Setup}
-use Rattle.chart.specs.Setups.{square, sum_of, squaresOf, setupOf}
-use Rattle.chart.specs.Steps.{room, mostLimit, limitOf, InRoom, prepared, HasRoom}
+use Rattle.chart.specs.Setups.{square, sum_of, squares_of, setup_of}
+use Rattle.chart.specs.Steps.{room, most_limit, limit_of, InRoom, prepared, HasRoom}
 use Rattle.chart.proofs.SpreadLaws.{never-negative}
 use Rattle.chart.proofs.SumLaws.{Summed, whole}
 
 -- ---- lists within the room
 -- the one law that knows which values are accepted
-pub values-room : (l : List ℕ) → allValues l ≡ true → InRoom l
+pub values-room : (l : List ℕ) → all_values l ≡ true → InRoom l
 values-room [] e = tt
 values-room (v ∷ l) e = let p = values-each v l e in (omega (arith, p.0), values-room l p.1)
 
@@ -43,25 +43,25 @@ unfolding sum_of
 sum-most [] h = omega arith
 sum-most (v ∷ l) h = omega (arith, h.0, sum-most l h.1)
 
-squares-most : (l : List ℕ) → InRoom l → squaresOf l ≤ length l * square room
-unfolding squaresOf
+squares-most : (l : List ℕ) → InRoom l → squares_of l ≤ length l * square room
+unfolding squares_of
 squares-most [] h = omega arith
 squares-most (v ∷ l) h = omega (arith, mul-le-mul h.0 h.0, squares-most l h.1)
 
 -- n × (n×Q − S²), where n×Q is the greatest number on the way
-module _ (a : List ℕ) (h : (length a ≤ mostSetup) × InRoom a) where
-  product-most : length a * squaresOf a ≤ mostSetup * (mostSetup * square room)
+module _ (a : List ℕ) (h : (length a ≤ most_setup) × InRoom a) where
+  product-most : length a * squares_of a ≤ most_setup * (most_setup * square room)
   product-most =
-      let most : squaresOf a ≤ mostSetup * square room = omega (arith, squares-most a h.1) in
+      let most : squares_of a ≤ most_setup * square room = omega (arith, squares-most a h.1) in
       mul-le-mul h.0 most
 
-  limit-most : limitOf (setupOf a) ≤ mostLimit
+  limit-most : limit_of (setup_of a) ≤ most_limit
   limit-most =
-      let most : length a * squaresOf a - square (sum_of a) ≤ mostSetup * (mostSetup * square room) = omega (arith, product-most) in
+      let most : length a * squares_of a - square (sum_of a) ≤ most_setup * (most_setup * square room) = omega (arith, product-most) in
       mul-le-mul h.0 most
 
   -- the setup made of a list
-  pub has_room : 1 ≤ length a → HasRoom (prepared (setupOf a))
+  pub has_room : 1 ≤ length a → HasRoom (prepared (setup_of a))
   has_room some =
       record { some = some; few = h.0; sum = omega (arith, sum-most a h.1); limit = refl; small = limit-most }
 
@@ -77,7 +77,7 @@ module _ {a : List ℕ} {i s q : ℕ} (sums : Summed a i s q) where
       rw (all.0, all.1) (omega (arith, product-most a sums.room), never-negative a, omega (arith, limit-most a sums.room))
 
 -- ---- a value against a setup
-pub times-most : {n v : ℕ} → n ≤ mostSetup → v ≤ room → n * v ≤ mostSetup * room
+pub times-most : {n v : ℕ} → n ≤ most_setup → v ≤ room → n * v ≤ most_setup * room
 times-most few h = mul-le-mul few h
 
 pub square-most : {k : ℕ} → k ≤ 3 → k * k ≤ 9
@@ -88,12 +88,12 @@ module _ {f : Setup} (g : HasRoom f) where
   left-fits h = omega (arith, mul-le-mul (square-most h) g.small)
 
   module _ {v gap : ℕ} (h : v ≤ room) (e : gap ≡ apart (f.n * v) f.sum) where
-    pub gap-most : gap * gap ≤ square (mostSetup * room)
+    pub gap-most : gap * gap ≤ square (most_setup * room)
     gap-most =
-        let b : gap ≤ mostSetup * room = omega (arith, times-most g.few h, g.sum) in
+        let b : gap ≤ most_setup * room = omega (arith, times-most g.few h, g.sum) in
         mul-le-mul b b
 
     pub right-fits : gap * gap * (f.n - 1) < 2 ^ 64
     right-fits =
-        let b : f.n - 1 ≤ mostSetup = omega (arith, g.few) in
+        let b : f.n - 1 ≤ most_setup = omega (arith, g.few) in
         omega (arith, mul-le-mul gap-most b)

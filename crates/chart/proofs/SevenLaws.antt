@@ -7,19 +7,19 @@ use native.Mathlib.Omega.{arith}
 use lib.ListN.{take, drop}
 use borrow.Author.Tests.{le-leb, lt-leb}
 use Rattle.chart.specs.Setups.{SetupTerms}
-use Rattle.chart.specs.Rules.{earlier, sevenOnOneSide, sevenInOrder}
-use Rattle.chart.specs.Steps.{byMean, onOneSide, inOrder}
+use Rattle.chart.specs.Rules.{earlier, seven_on_one_side, seven_in_order}
+use Rattle.chart.specs.Steps.{by_mean, on_one_side, in_order}
 
 module _ (f : SetupTerms) (l : List ℕ) (i : ℕ) where
   abbrev part : List ℕ
   part = take (i + 1 - (i - earlier)) (drop (i - earlier) l)
 
-  pub too-early : i < earlier → (sevenOnOneSide f l i ≡ false) × (sevenInOrder l i ≡ false)
-  unfolding sevenOnOneSide sevenInOrder
+  pub too-early : i < earlier → (seven_on_one_side f l i ≡ false) × (seven_in_order l i ≡ false)
+  unfolding seven_on_one_side seven_in_order
   too-early h = rw (lt-leb earlier i h) (refl, refl)
 
-  pub of_part : earlier ≤ i → (sevenOnOneSide f l i ≡ onOneSide (byMean f.n f.S) part) × (sevenInOrder l i ≡ inOrder part)
-  unfolding sevenOnOneSide sevenInOrder
+  pub of_part : earlier ≤ i → (seven_on_one_side f l i ≡ on_one_side (by_mean f.n f.S) part) × (seven_in_order l i ≡ in_order part)
+  unfolding seven_on_one_side seven_in_order
   of_part h =
       let e : i + 1 - (i - earlier) ≡ earlier + 1 = omega arith in
       rw (le-leb earlier i h, e) (refl, refl)

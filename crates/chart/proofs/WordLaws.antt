@@ -6,56 +6,56 @@ use native.Mathlib.Numerals.{add-one}
 use native.Mathlib.Omega.{arith}
 use lib.ListN.{length, get_or, drop, set, length-append, get_or-eq_default}
 use lib.Seq.{drop-cons, set_at, append_snoc, get_or_at}
-use Rattle.chart.specs.Setups.{SetupTerms, setupOf}
-use Rattle.chart.specs.Rules.{signalAt}
-use Rattle.chart.specs.Charts.{firstWords, signalWords, lastWord}
+use Rattle.chart.specs.Setups.{SetupTerms, setup_of}
+use Rattle.chart.specs.Rules.{signal_at}
+use Rattle.chart.specs.Charts.{first_words, signal_words, last_word}
 
 module _ (f : SetupTerms) (l : List ℕ) where
-  length-first : (k : ℕ) → length (firstWords f l k) ≡ k
-  unfolding firstWords
+  length-first : (k : ℕ) → length (first_words f l k) ≡ k
+  unfolding first_words
   length-first zero = refl
-  length-first (suc k) = length-append (firstWords f l k) _ ∙ omega (arith, length-first k)
+  length-first (suc k) = length-append (first_words f l k) _ ∙ omega (arith, length-first k)
 
   -- ---- the loop: after i turns the first i words are written, and the rest of the slice is as it was
-  pub none_written : (old : List ℕ) → old ≡ firstWords f l 0 ++ drop 0 old
-  unfolding firstWords
+  pub none_written : (old : List ℕ) → old ≡ first_words f l 0 ++ drop 0 old
+  unfolding first_words
   none_written old = refl
 
-  pub one_more : (old out : List ℕ) (i w : ℕ) → i < length old → out ≡ firstWords f l i ++ drop i old → w ≡ signalAt f l i
-      → set out i w ≡ firstWords f l (i + 1) ++ drop (i + 1) old
-  unfolding firstWords
+  pub one_more : (old out : List ℕ) (i w : ℕ) → i < length old → out ≡ first_words f l i ++ drop i old → w ≡ signal_at f l i
+      → set out i w ≡ first_words f l (i + 1) ++ drop (i + 1) old
+  unfolding first_words
   one_more old out i w h p q =
       rw (
         p,
         q,
         add-one,
         drop-cons old i 0 h,
-        set_at (firstWords f l i) (get_or old i 0) (drop (suc i) old) (signalAt f l i) i (length-first i),
+        set_at (first_words f l i) (get_or old i 0) (drop (suc i) old) (signal_at f l i) i (length-first i),
       )
-      (sym (append_snoc (firstWords f l i) (signalAt f l i) (drop (suc i) old)))
+      (sym (append_snoc (first_words f l i) (signal_at f l i) (drop (suc i) old)))
 
   -- ---- the last of them
-  last-at : (k : ℕ) → 1 ≤ k → get_or (firstWords f l k) (k - 1) 0 ≡ signalAt f l (k - 1)
-  unfolding firstWords
+  last-at : (k : ℕ) → 1 ≤ k → get_or (first_words f l k) (k - 1) 0 ≡ signal_at f l (k - 1)
+  unfolding first_words
   last-at zero h = absurd (omega arith)
   last-at (suc k) h =
       let e : suc k - 1 ≡ k = omega arith in
-      rw e (get_or_at (firstWords f l k) (signalAt f l k) [] 0 k (length-first k))
+      rw e (get_or_at (first_words f l k) (signal_at f l k) [] 0 k (length-first k))
 
 module _ (a l : List ℕ) where
-  pub length-words : length (signalWords a l) ≡ length l
-  unfolding signalWords
-  length-words = length-first (setupOf a) l (length l)
+  pub length-words : length (signal_words a l) ≡ length l
+  unfolding signal_words
+  length-words = length-first (setup_of a) l (length l)
 
-  pub all-written : (old out : List ℕ) (i : ℕ) → i ≡ length l → out ≡ firstWords (setupOf a) l i ++ drop i old
-      → out ≡ signalWords a l ++ drop (length (signalWords a l)) old
-  unfolding signalWords
+  pub all-written : (old out : List ℕ) (i : ℕ) → i ≡ length l → out ≡ first_words (setup_of a) l i ++ drop i old
+      → out ≡ signal_words a l ++ drop (length (signal_words a l)) old
+  unfolding signal_words
   all-written old out i e p = rw (length-words) (rw e at p)
 
-  pub last-is : 1 ≤ length l → signalAt (setupOf a) l (length l - 1) ≡ lastWord a l
-  unfolding lastWord signalWords
-  last-is h = sym (last-at (setupOf a) l (length l) h)
+  pub last-is : 1 ≤ length l → signal_at (setup_of a) l (length l - 1) ≡ last_word a l
+  unfolding last_word signal_words
+  last-is h = sym (last-at (setup_of a) l (length l) h)
 
-  pub no_last : length l ≡ 0 → 0 ≡ lastWord a l
-  unfolding lastWord
-  no_last e = sym (get_or-eq_default (signalWords a l) 0 {n = length l - 1} (omega (arith, length-words)))
+  pub no_last : length l ≡ 0 → 0 ≡ last_word a l
+  unfolding last_word
+  no_last e = sym (get_or-eq_default (signal_words a l) 0 {n = length l - 1} (omega (arith, length-words)))

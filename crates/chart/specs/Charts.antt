@@ -6,29 +6,29 @@ use Rattle.refusal.specs.Numbers.{number_of}
 use Rattle.chart.specs.Values.{tested}
 use Rattle.chart.specs.declared.Last.{Last}
 use Rattle.chart.specs.declared.Last.TheVariants as last
-use Rattle.chart.specs.Setups.{SetupTerms, setupOf}
-use Rattle.chart.specs.Rules.{signalAt}
+use Rattle.chart.specs.Setups.{SetupTerms, setup_of}
+use Rattle.chart.specs.Rules.{signal_at}
 
 -- the words of the first k later values
-unfoldable pub firstWords : SetupTerms → List ℕ → ℕ → List ℕ
-firstWords f later zero = []
-firstWords f later (suc k) = firstWords f later k ++ (signalAt f later k ∷ [])
+unfoldable pub first_words : SetupTerms → List ℕ → ℕ → List ℕ
+first_words f later zero = []
+first_words f later (suc k) = first_words f later k ++ (signal_at f later k ∷ [])
 
 -- 'One output word per later value.'
-unfoldable pub signalWords : List ℕ → List ℕ → List ℕ
-signalWords setup later = firstWords (setupOf setup) later (length later)
+unfoldable pub signal_words : List ℕ → List ℕ → List ℕ
+signal_words setup later = first_words (setup_of setup) later (length later)
 
 -- the last of them; 'a chart without later values has no signal'
-unfoldable pub lastWord : List ℕ → List ℕ → ℕ
-lastWord setup later = get_or (signalWords setup later) (length later - 1) 0
+unfoldable pub last_word : List ℕ → List ℕ → ℕ
+last_word setup later = get_or (signal_words setup later) (length later - 1) 0
 
 -- what is answered. 'a chart alone, two slices without an element, 9, 10, 13': the tests 9 and 10 of its values come first
-unfoldable pub signalsOf : List ℕ → List ℕ → Outcome (List ℕ)
-signalsOf setup later = tested setup later (given (signalWords setup later))
+unfoldable pub signals_of : List ℕ → List ℕ → Outcome (List ℕ)
+signals_of setup later = tested setup later (given (signal_words setup later))
 
-unfoldable pub lastSignalOf : List ℕ → List ℕ → Outcome ℕ
-lastSignalOf setup later = tested setup later (given (lastWord setup later))
+unfoldable pub last_signal_of : List ℕ → List ℕ → Outcome ℕ
+last_signal_of setup later = tested setup later (given (last_word setup later))
 
-abbrev pub lastOutcome : Last → Outcome ℕ
-lastOutcome (last.Given word) = given word
-lastOutcome (last.Refused why) = refused (number_of why)
+abbrev pub last_outcome : Last → Outcome ℕ
+last_outcome (last.Given word) = given word
+last_outcome (last.Refused why) = refused (number_of why)

@@ -9,9 +9,9 @@ unfoldable pub sum_of : List ℕ → ℕ
 sum_of [] = 0
 sum_of (v ∷ values) = v + sum_of values
 
-unfoldable pub squaresOf : List ℕ → ℕ
-squaresOf [] = 0
-squaresOf (v ∷ values) = square v + squaresOf values
+unfoldable pub squares_of : List ℕ → ℕ
+squares_of [] = 0
+squares_of (v ∷ values) = square v + squares_of values
 
 -- 'n setup values, sum S and sum of squares Q'
 pub record SetupTerms : Type 0 where
@@ -19,12 +19,12 @@ pub record SetupTerms : Type 0 where
   pub S : ℕ
   pub Q : ℕ
 
-abbrev pub setupOf : List ℕ → SetupTerms
-setupOf values = record { n = length values; S = sum_of values; Q = squaresOf values }
+abbrev pub setup_of : List ℕ → SetupTerms
+setup_of values = record { n = length values; S = sum_of values; Q = squares_of values }
 
 -- n×Q − S² is never negative, whatever the values: so the difference of whole numbers below is the document's
 abbrev pub NeverNegative : Type 0
-NeverNegative = (values : List ℕ) → square (setupOf values).S ≤ (setupOf values).n * (setupOf values).Q
+NeverNegative = (values : List ℕ) → square (setup_of values).S ≤ (setup_of values).n * (setup_of values).Q
 
 -- 'a value v is beyond k deviations when (n×v − S)² × (n − 1) is greater than k² × n × (n×Q − S²)'.
 -- (The square of a difference is that of it with its sign dropped)
@@ -36,6 +36,6 @@ pub data Side : Type 0 where
   Above : Side
   Below : Side
 
-abbrev pub onSide : SetupTerms → Side → ℕ → Bool
-onSide f Above v = ltb f.S (f.n * v)
-onSide f Below v = ltb (f.n * v) f.S
+abbrev pub on_side : SetupTerms → Side → ℕ → Bool
+on_side f Above v = ltb f.S (f.n * v)
+on_side f Below v = ltb (f.n * v) f.S

@@ -14,33 +14,33 @@ every f [] = true
 every f (v ∷ values) = f v && every f values
 
 -- document 02 (i): 'Chart values are in tenths too, 0 to 2,000,000', tenths of a µg/L
-abbrev pub greatestValue : ℕ
-greatestValue = 2_000_000
+abbrev pub greatest_value : ℕ
+greatest_value = 2_000_000
 
 abbrev pub is_value : ℕ → Bool
-is_value v = leb v greatestValue
+is_value v = leb v greatest_value
 
-abbrev pub allValues : List ℕ → Bool
-allValues values = every is_value values
+abbrev pub all_values : List ℕ → Bool
+all_values values = every is_value values
 
 -- '10 to 64 setup values, then 0 to 64 later ones'
-abbrev pub leastSetup : ℕ
-leastSetup = 10
+abbrev pub least_setup : ℕ
+least_setup = 10
 
-abbrev pub mostSetup : ℕ
-mostSetup = 64
+abbrev pub most_setup : ℕ
+most_setup = 64
 
-abbrev pub mostLater : ℕ
-mostLater = 64
+abbrev pub most_later : ℕ
+most_later = 64
 
-unfoldable pub countsFit : ℕ → ℕ → Bool
-countsFit setup later = leb leastSetup setup && (leb setup mostSetup && leb later mostLater)
+unfoldable pub counts_fit : ℕ → ℕ → Bool
+counts_fit setup later = leb least_setup setup && (leb setup most_setup && leb later most_later)
 
 -- 'a chart alone, two slices without an element, 9, 10, 13': the tests 9 and 10, and then the rest
 unfoldable pub tested : {A : Type 0} → List ℕ → List ℕ → Outcome A → Outcome A
 tested setup later rest =
-    demand (countsFit (length setup) (length later)) (number_of refusal.Count)
-    (demand (allValues setup && allValues later) (number_of refusal.Chart)
+    demand (counts_fit (length setup) (length later)) (number_of refusal.Count)
+    (demand (all_values setup && all_values later) (number_of refusal.Chart)
     rest)
 
 -- the two tests alone: nothing is given but that both pass
@@ -48,6 +48,6 @@ unfoldable pub test_of : List ℕ → List ℕ → Outcome (Unit {0})
 test_of setup later = tested setup later (given tt)
 
 -- what was answered
-abbrev pub testedOutcome : Tested → Outcome (Unit {0})
-testedOutcome variant.Accepted = given tt
-testedOutcome (variant.Refused why) = refused (number_of why)
+abbrev pub tested_outcome : Tested → Outcome (Unit {0})
+tested_outcome variant.Accepted = given tt
+tested_outcome (variant.Refused why) = refused (number_of why)

@@ -2,7 +2,7 @@
 ghost use Rattle.std.specs.Prelude.{◌≡◌, ◌≤◌};
 ghost use Rattle.refusal.specs.Differences.{apart};
 ghost use Rattle.chart.specs.Setups.{beyond};
-ghost use Rattle.chart.specs.Steps.{room, termsOf, HasRoom};
+ghost use Rattle.chart.specs.Steps.{room, terms_of, HasRoom};
 
 use crate::setup::Setup;
 
@@ -10,7 +10,7 @@ use crate::setup::Setup;
 pub fn beyond(setup: Setup, k: u64, value: u32) -> bool
     requires has_room { HasRoom setup }
     requires k_bound { (k ≤ 3) × (value ≤ room) }
-    ensures { result ≡ beyond (termsOf setup) k value }
+    ensures { result ≡ beyond (terms_of setup) k value }
 {
     let gap = apart(setup.n * value as u64, setup.sum);
     k * k * setup.limit < gap * gap * (setup.n - 1)

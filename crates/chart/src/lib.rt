@@ -7,9 +7,9 @@ mod signal;
 pub mod values;
 
 ghost use Rattle.std.specs.Prelude.{◌≡◌, length};
-ghost use Rattle.refusal.specs.Lent.{fitting, lentAfter, length_of, writtenOutcome};
+ghost use Rattle.refusal.specs.Lent.{fitting, lent_after, length_of, written_outcome};
 ghost use Rattle.chart.specs.Setups.{NeverNegative};
-ghost use Rattle.chart.specs.Charts.{signalsOf, lastSignalOf, lastOutcome};
+ghost use Rattle.chart.specs.Charts.{signals_of, last_signal_of, last_outcome};
 
 use crate::values::Tested;
 use refusal::{Refusal, Written};
@@ -24,8 +24,8 @@ pub enum Last {
 // Writes one signal word for each later value to the front of a lent slice, whose rest stays. The third promise is that
 // n×Q − S², which deviations are made of, is never negative, whatever the values.
 pub fn signals(setup: &[u32], later: &[u32], out: &mut [u32]) -> Written
-    ensures answer { writtenOutcome result ≡ length_of (fitting (length out.old) (signalsOf setup.now later.now)) }
-    ensures lent { out.new ≡ lentAfter (fitting (length out.old) (signalsOf setup.now later.now)) out.old }
+    ensures answer { written_outcome result ≡ length_of (fitting (length out.old) (signals_of setup.now later.now)) }
+    ensures lent { out.new ≡ lent_after (fitting (length out.old) (signals_of setup.now later.now)) out.old }
     ensures spread { NeverNegative }
 {
     if let Tested::Refused(why) = values::test(setup, later) {
@@ -45,7 +45,7 @@ pub fn signals(setup: &[u32], later: &[u32], out: &mut [u32]) -> Written
 
 // The signal word of the last later value alone, 0 where there is none.
 pub fn last_signal(setup: &[u32], later: &[u32]) -> Last
-    ensures { lastOutcome result ≡ lastSignalOf setup.now later.now }
+    ensures { last_outcome result ≡ last_signal_of setup.now later.now }
 {
     if let Tested::Refused(why) = values::test(setup, later) {
         return Last::Refused(why);

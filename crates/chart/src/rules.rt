@@ -2,9 +2,9 @@
 // `deviations::beyond` alone. The loops have no way out before their end: values change sides and courses at any time, and a
 // branch that cannot be foreseen costs more than the comparisons that it spares.
 ghost use Rattle.std.specs.Prelude.{◌≡◌, ◌<◌, ◌≤◌, length};
-ghost use Rattle.chart.specs.Rules.{pairBeyondTwo};
-ghost use Rattle.chart.specs.Values.{mostSetup};
-ghost use Rattle.chart.specs.Steps.{hasPartner, byMean, onOneSide, inOrder, room, termsOf, InRoom, HasRoom};
+ghost use Rattle.chart.specs.Rules.{pair_beyond_two};
+ghost use Rattle.chart.specs.Values.{most_setup};
+ghost use Rattle.chart.specs.Steps.{has_partner, by_mean, on_one_side, in_order, room, terms_of, InRoom, HasRoom};
 
 use crate::setup::Setup;
 use crate::{deviations, setup};
@@ -13,7 +13,7 @@ use crate::{deviations, setup};
 pub fn pair_beyond_two(setup: Setup, later: &[u32], i: usize) -> bool
     requires has_room { HasRoom setup }
     requires i_in_bounds { (i < length later.now) × InRoom later.now }
-    ensures { result ≡ pairBeyondTwo (termsOf setup) later.now i }
+    ensures { result ≡ pair_beyond_two (terms_of setup) later.now i }
 {
     let value = later[i];
     if !deviations::beyond(setup, 2, value) {
@@ -29,7 +29,7 @@ pub fn pair_beyond_two(setup: Setup, later: &[u32], i: usize) -> bool
 fn has_partner(setup: Setup, value: u32, later: &[u32], i: usize, places: usize) -> bool
     requires has_room { HasRoom setup }
     requires value_le_room { (value ≤ room) × (i < length later.now) × InRoom later.now }
-    ensures { result ≡ hasPartner (termsOf setup) value later.now i places }
+    ensures { result ≡ has_partner (terms_of setup) value later.now i places }
 {
     if i < places {
         return false;
@@ -41,8 +41,8 @@ fn has_partner(setup: Setup, value: u32, later: &[u32], i: usize, places: usize)
 
 // Rule 4: all above the mean, or all below it. n times a value against the sum is the value against the mean.
 pub fn on_one_side(n: u64, sum: u64, values: &[u32]) -> bool
-    requires { (n ≤ mostSetup) × InRoom values.now }
-    ensures { result ≡ onOneSide (byMean n sum) values.now }
+    requires { (n ≤ most_setup) × InRoom values.now }
+    ensures { result ≡ on_one_side (by_mean n sum) values.now }
 {
     let mut above = true;
     let mut below = true;
@@ -58,7 +58,7 @@ pub fn on_one_side(n: u64, sum: u64, values: &[u32]) -> bool
 
 // Rule 8: all rising, or all falling.
 pub fn in_order(seven: &[u32]) -> bool
-    ensures { result ≡ inOrder seven.now }
+    ensures { result ≡ in_order seven.now }
 {
     let mut rising = true;
     let mut falling = true;

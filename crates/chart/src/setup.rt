@@ -1,7 +1,7 @@
 // What a chart's setup values come to, made once for all later values.
 ghost use Rattle.std.specs.Prelude.{◌≡◌, ◌≤◌, length};
-ghost use Rattle.chart.specs.Setups.{setupOf};
-ghost use Rattle.chart.specs.Values.{mostSetup};
+ghost use Rattle.chart.specs.Setups.{setup_of};
+ghost use Rattle.chart.specs.Values.{most_setup};
 ghost use Rattle.chart.specs.Steps.{InRoom, prepared};
 
 // How many values, their sum and the sum of their squares: n, S and Q of document 01; and the limit at one deviation,
@@ -15,8 +15,8 @@ pub struct Setup {
 }
 
 pub fn of_values(values: &[u32]) -> Setup
-    requires { (length values.now ≤ mostSetup) × InRoom values.now }
-    ensures { result ≡ prepared (setupOf values.now) }
+    requires { (length values.now ≤ most_setup) × InRoom values.now }
+    ensures { result ≡ prepared (setup_of values.now) }
 {
     let mut sum: u64 = 0;
     let mut squares: u64 = 0;

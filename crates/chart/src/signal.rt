@@ -1,7 +1,7 @@
 // The signal word of a later value: the sum of the numbers of the rules that it meets.
 ghost use Rattle.std.specs.Prelude.{◌≡◌, ◌+◌, ◌<◌, ◌≤◌, length};
-ghost use Rattle.chart.specs.Rules.{weight, sevenOnOneSide, sevenInOrder, signalAt};
-ghost use Rattle.chart.specs.Steps.{termsOf, InRoom, HasRoom};
+ghost use Rattle.chart.specs.Rules.{weight, seven_on_one_side, seven_in_order, signal_at};
+ghost use Rattle.chart.specs.Steps.{terms_of, InRoom, HasRoom};
 
 use crate::setup::Setup;
 use crate::{deviations, rules};
@@ -12,7 +12,7 @@ const EARLIER: usize = 6;
 pub fn word(setup: Setup, later: &[u32], i: usize) -> u32
     requires has_room { HasRoom setup }
     requires i_in_bounds { (i < length later.now) × InRoom later.now }
-    ensures { result ≡ signalAt (termsOf setup) later.now i }
+    ensures { result ≡ signal_at (terms_of setup) later.now i }
 {
     let one = weight(deviations::beyond(setup, 3, later[i]), 1);
     let two = weight(rules::pair_beyond_two(setup, later, i), 2);
@@ -23,7 +23,7 @@ pub fn word(setup: Setup, later: &[u32], i: usize) -> u32
 fn of_seven(setup: Setup, later: &[u32], i: usize) -> u32
     requires has_room { HasRoom setup }
     requires i_in_bounds { (i < length later.now) × InRoom later.now }
-    ensures { (result ≡ weight (sevenOnOneSide (termsOf setup) later.now i) 4 + weight (sevenInOrder later.now i) 8) × (result ≤ 12) }
+    ensures { (result ≡ weight (seven_on_one_side (terms_of setup) later.now i) 4 + weight (seven_in_order later.now i) 8) × (result ≤ 12) }
 {
     if i < EARLIER {
         return 0;

@@ -1,7 +1,7 @@
 // The values of a control chart (document 01, 'Charts', and 02 (i)): how many it may have and how great they may be, refusals
 // 9 and 10.
 ghost use Rattle.std.specs.Prelude.{◌≡◌};
-ghost use Rattle.chart.specs.Values.{allValues, countsFit, test_of, testedOutcome};
+ghost use Rattle.chart.specs.Values.{all_values, counts_fit, test_of, tested_outcome};
 
 use refusal::Refusal;
 
@@ -23,7 +23,7 @@ pub enum Tested {
 
 // The tests of a chart's setup values and later ones: their counts, 9, then the values, 10.
 pub fn test(setup: &[u32], later: &[u32]) -> Tested
-    ensures { testedOutcome result ≡ test_of setup.now later.now }
+    ensures { tested_outcome result ≡ test_of setup.now later.now }
 {
     if !counts_fit(setup.len(), later.len()) {
         return Tested::Refused(Refusal::Count);
@@ -36,14 +36,14 @@ pub fn test(setup: &[u32], later: &[u32]) -> Tested
 
 // Whether a chart may have so many setup values and so many later ones.
 pub fn counts_fit(setup: usize, later: usize) -> bool
-    ensures { result ≡ countsFit setup later }
+    ensures { result ≡ counts_fit setup later }
 {
     (LEAST_SETUP <= setup) & ((setup <= MOST_SETUP) & (later <= MOST_LATER))
 }
 
 // The loop has one way out, so that several words are tested at once.
 fn are_values(words: &[u32]) -> bool
-    ensures { result ≡ allValues words.now }
+    ensures { result ≡ all_values words.now }
 {
     let mut all = true;
     let mut i: usize = 0;

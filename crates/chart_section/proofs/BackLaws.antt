@@ -7,19 +7,19 @@ use native.Mathlib.Omega.{arith}
 use lib.ListN.{length, take, drop, length-append}
 use lib.Seq.{take_at, drop_at}
 use borrow.Author.Tests.{le-leb}
-use Rattle.chart.specs.Values.{allValues}
+use Rattle.chart.specs.Values.{all_values}
 use Rattle.chart.proofs.ValueLaws.{values-append}
 use Rattle.words.specs.FromFront.{taken}
-use Rattle.words.specs.Sections.{sectionWords}
+use Rattle.words.specs.Sections.{section_words}
 use Rattle.words.proofs.BackLaws.{Returns, section-back}
-use Rattle.chart_section.specs.ChartSection.{Chart, mostCharts, elementsOf, isNewElement, values_of, chartWith, chartOf, chartsOf, chartWords}
+use Rattle.chart_section.specs.ChartSection.{Chart, most_charts, elements_of, is_new_element, values_of, chart_with, chart_of, charts_of, chart_words}
 use Rattle.chart_section.specs.Valid.{ValidAfter, ValidCharts}
 
 module _ (e : ℕ) (setup later rest : List ℕ) where
   abbrev all : List ℕ
   all = (setup ++ later) ++ rest
 
-  values-back : allValues (setup ++ later) ≡ true
+  values-back : all_values (setup ++ later) ≡ true
       → values_of e (length setup) (length later) all ≡ taken (record { element = e; setup = setup; later = later }) rest
   unfolding values_of
   values-back v =
@@ -36,12 +36,12 @@ module _ (e : ℕ) (setup later rest : List ℕ) where
       in
       rw (le-leb (length setup + length later) (length all) room, front, v, first, second, behind)
 
-chart-back : Returns ValidAfter chartWords (λ before. chartOf (elementsOf before))
-unfolding chartOf chartWith
+chart-back : Returns ValidAfter chart_words (λ before. chart_of (elements_of before))
+unfolding chart_of chart_with
 chart-back before c rest v =
-    let new : isNewElement (elementsOf before) c.element ≡ true = v.new in
-    let values : allValues (c.setup ++ c.later) ≡ true = values-append c.setup c.later ∙ rw (v.setup, v.later) in
-    rw (le-leb 3 (length (chartWords c ++ rest)) (omega arith), new, v.counts) (values-back c.element c.setup c.later rest values)
+    let new : is_new_element (elements_of before) c.element ≡ true = v.new in
+    let values : all_values (c.setup ++ c.later) ≡ true = values-append c.setup c.later ∙ rw (v.setup, v.later) in
+    rw (le-leb 3 (length (chart_words c ++ rest)) (omega arith), new, v.counts) (values-back c.element c.setup c.later rest values)
 
-pub charts-back : (cs : List Chart) (rest : List ℕ) → ValidCharts cs → chartsOf (sectionWords chartWords cs ++ rest) ≡ taken cs rest
-charts-back cs rest v = section-back ValidAfter chartWords _ chart-back mostCharts cs rest v.few v.each
+pub charts-back : (cs : List Chart) (rest : List ℕ) → ValidCharts cs → charts_of (section_words chart_words cs ++ rest) ≡ taken cs rest
+charts-back cs rest v = section-back ValidAfter chart_words _ chart-back most_charts cs rest v.few v.each

@@ -14,38 +14,38 @@ use Rattle.refusal.specs.Numbers.{number_of}
 use Rattle.refusal.specs.declared.Refusal.{Refusal}
 use Rattle.refusal.specs.declared.Refusal.TheVariants as refusal
 use Rattle.refusal.proofs.Testing.{both}
-use Rattle.chart.specs.Values.{countsFit, allValues}
+use Rattle.chart.specs.Values.{counts_fit, all_values}
 use Rattle.chart.proofs.ValueLaws.{values-append}
 use Rattle.chart.specs.declared.Last.{Last}
 use Rattle.chart.specs.declared.Last.TheVariants as last
-use Rattle.chart.specs.Charts.{lastSignalOf, lastOutcome}
+use Rattle.chart.specs.Charts.{last_signal_of, last_outcome}
 use Rattle.chart.proofs.Laws.{last-given, last-refused}
 use Rattle.words.specs.FromFront.{taken}
 use Rattle.words.proofs.SliceLaws.{part_of}
 use Rattle.chart_section.specs.declared.first.ChartRead.TheVariants as chart-read
-use Rattle.chart_section.specs.ChartSection.{Chart, headWords, isNewElement, values_of, chartWith, chartOf, signalOf}
+use Rattle.chart_section.specs.ChartSection.{Chart, head_words, is_new_element, values_of, chart_with, chart_of, signal_of}
 use Rattle.chart_section.specs.Steps.{ChartSaid}
 
 -- ---- the first three words
 
 module _ (used s : List ℕ) where
-  pub chart-short : length s < headWords → chartOf used s ≡ refused (number_of refusal.BatchLength)
-  unfolding chartOf
-  chart-short h = rw (lt-leb headWords (length s) h)
+  pub chart-short : length s < head_words → chart_of used s ≡ refused (number_of refusal.BatchLength)
+  unfolding chart_of
+  chart-short h = rw (lt-leb head_words (length s) h)
 
-  module _ (h : headWords ≤ length s) where
-    pub chart-not-new : isNewElement used (get_or s 0 0) ≡ false → chartOf used s ≡ refused (number_of refusal.Chart)
-    unfolding chartOf chartWith
-    chart-not-new e = rw (le-leb headWords (length s) h, e)
+  module _ (h : head_words ≤ length s) where
+    pub chart-not-new : is_new_element used (get_or s 0 0) ≡ false → chart_of used s ≡ refused (number_of refusal.Chart)
+    unfolding chart_of chart_with
+    chart-not-new e = rw (le-leb head_words (length s) h, e)
 
-    module _ {setup later : ℕ} (m : setup ≡ get_or s 1 0) (n : later ≡ get_or s 2 0) (e : isNewElement used (get_or s 0 0) ≡ true) where
-      pub chart-not-fit : countsFit setup later ≡ false → chartOf used s ≡ refused (number_of refusal.Count)
-      unfolding chartOf chartWith
-      chart-not-fit f = rw (le-leb headWords (length s) h, e, ← m, ← n, f)
+    module _ {setup later : ℕ} (m : setup ≡ get_or s 1 0) (n : later ≡ get_or s 2 0) (e : is_new_element used (get_or s 0 0) ≡ true) where
+      pub chart-not-fit : counts_fit setup later ≡ false → chart_of used s ≡ refused (number_of refusal.Count)
+      unfolding chart_of chart_with
+      chart-not-fit f = rw (le-leb head_words (length s) h, e, ← m, ← n, f)
 
-      pub chart-values : countsFit setup later ≡ true → chartOf used s ≡ values_of (get_or s 0 0) setup later (drop headWords s)
-      unfolding chartOf chartWith
-      chart-values f = rw (le-leb headWords (length s) h, e, ← m, ← n, f)
+      pub chart-values : counts_fit setup later ≡ true → chart_of used s ≡ values_of (get_or s 0 0) setup later (drop head_words s)
+      unfolding chart_of chart_with
+      chart-values f = rw (le-leb head_words (length s) h, e, ← m, ← n, f)
 
 -- ---- the values
 
@@ -59,14 +59,14 @@ module _ (e setup later : ℕ) (s : List ℕ) where
 
   -- what the chart's last signal tells of reading it
   abbrev Told : Outcome ℕ → Type 0
-  Told (given g) = (values_of e setup later s ≡ taken chart (drop (setup + later) s)) × (signalOf chart ≡ g)
+  Told (given g) = (values_of e setup later s ≡ taken chart (drop (setup + later) s)) × (signal_of chart ≡ g)
   Told (refused n) = values_of e setup later s ≡ refused n
 
   abbrev good : Bool
-  good = allValues chart.setup && allValues chart.later
+  good = all_values chart.setup && all_values chart.later
 
-  module _ (fits : countsFit setup later ≡ true) (h : setup + later ≤ length s) where
-    counts : countsFit (length chart.setup) (length chart.later) ≡ true
+  module _ (fits : counts_fit setup later ≡ true) (h : setup + later ≤ length s) where
+    counts : counts_fit (length chart.setup) (length chart.later) ≡ true
     counts =
         let m = length-take-le setup s (omega arith) in
         let n = length-take-le later (drop setup s) (omega (arith, length-drop setup s)) in
@@ -76,31 +76,31 @@ module _ (e setup later : ℕ) (s : List ℕ) where
     unfolding values_of
     tests-values = rw (le-leb (setup + later) (length s) h, take-add setup later s, values-append chart.setup chart.later)
 
-    values-told : Told (lastSignalOf chart.setup chart.later)
+    values-told : Told (last_signal_of chart.setup chart.later)
     values-told = go good refl
       where
-        go : (b : Bool) → good ≡ b → Told (lastSignalOf chart.setup chart.later)
+        go : (b : Bool) → good ≡ b → Told (last_signal_of chart.setup chart.later)
         go true v =
-            let p = both (allValues chart.setup) (allValues chart.later) v in
+            let p = both (all_values chart.setup) (all_values chart.later) v in
             rw (last-given chart.setup chart.later counts p.0 p.1) (rw (tests-values, v), refl)
         go false v = rw (last-refused chart.setup chart.later counts v) (rw (tests-values, v))
 
 -- the same, of the parts that the code lends
 module _ (e setup later : ℕ) (s : List ℕ) where
-  abbrev lentSignal : Outcome ℕ
-  lentSignal = lastSignalOf (take (headWords + setup - headWords) (drop headWords s)) (take (headWords + setup + later - (headWords + setup)) (drop (headWords + setup) s))
+  abbrev lent_signal : Outcome ℕ
+  lent_signal = last_signal_of (take (head_words + setup - head_words) (drop head_words s)) (take (head_words + setup + later - (head_words + setup)) (drop (head_words + setup) s))
 
-  module _ (fits : countsFit setup later ≡ true) (h : headWords + setup + later ≤ length s) where
-    lent-told : Told e setup later (drop headWords s) lentSignal
+  module _ (fits : counts_fit setup later ≡ true) (h : head_words + setup + later ≤ length s) where
+    lent-told : Told e setup later (drop head_words s) lent_signal
     lent-told =
-        rw (part_of s headWords setup, part_of s (headWords + setup) later, ← drop-drop setup headWords s)
-        (values-told e setup later (drop headWords s) fits (omega (arith, length-drop headWords s)))
+        rw (part_of s head_words setup, part_of s (head_words + setup) later, ← drop-drop setup head_words s)
+        (values-told e setup later (drop head_words s) fits (omega (arith, length-drop head_words s)))
 
-    module _ {r : Last} (signal : lastOutcome r ≡ lentSignal) where
-      pub values-taken : {g : ℕ} → r ≡ last.Given g → ChartSaid (chart-read.Chart e g (headWords + setup + later)) (values_of e setup later (drop headWords s)) s
+    module _ {r : Last} (signal : last_outcome r ≡ lent_signal) where
+      pub values-taken : {g : ℕ} → r ≡ last.Given g → ChartSaid (chart-read.Chart e g (head_words + setup + later)) (values_of e setup later (drop head_words s)) s
       values-taken {g} is =
-          let t = subst (Told e setup later (drop headWords s)) (sym signal ∙ ap lastOutcome is) lent-told in
-          (chart e setup later (drop headWords s), t.0 ∙ rw (drop-drop (setup + later) headWords s, add_assoc headWords setup later), h, refl, t.1)
+          let t = subst (Told e setup later (drop head_words s)) (sym signal ∙ ap last_outcome is) lent-told in
+          (chart e setup later (drop head_words s), t.0 ∙ rw (drop-drop (setup + later) head_words s, add_assoc head_words setup later), h, refl, t.1)
 
-      pub values-refused : {why : Refusal} → r ≡ last.Refused why → values_of e setup later (drop headWords s) ≡ refused (number_of why)
-      values-refused is = subst (Told e setup later (drop headWords s)) (sym signal ∙ ap lastOutcome is) lent-told
+      pub values-refused : {why : Refusal} → r ≡ last.Refused why → values_of e setup later (drop head_words s) ≡ refused (number_of why)
+      values-refused is = subst (Told e setup later (drop head_words s)) (sym signal ∙ ap last_outcome is) lent-told

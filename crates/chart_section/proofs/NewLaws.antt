@@ -8,13 +8,13 @@ use lib.Dec.{eqb, leb}
 use lib.ListN.{length}
 use borrow.Author.Tests.{eqb-true, eqb-false, leb-true}
 use Rattle.refusal.proofs.Testing.{both}
-use Rattle.record.specs.Record.{isElement, readings}
-use Rattle.chart_section.specs.ChartSection.{mostCharts, member, isNewElement}
+use Rattle.record.specs.Record.{is_element, readings}
+use Rattle.chart_section.specs.ChartSection.{most_charts, member, is_new_element}
 
 -- each is one of ten and none of those used before it
 abbrev pub New : List ℕ → List ℕ → Type 0
 New used [] = Unit {0}
-New used (e ∷ l) = (isNewElement used e ≡ true) × New (used ++ e ∷ []) l
+New used (e ∷ l) = (is_new_element used e ≡ true) × New (used ++ e ∷ []) l
 
 -- ---- members of two lists
 
@@ -63,9 +63,9 @@ one_fewer (suc n) used e l h m = go (eqb e (suc n)) refl (λ k. one_fewer n used
         let other : e ≡ suc n → ⊥ = eqb-false e (suc n) q in
         omega (arith, rec (omega arith), step used e (suc n))
 
-element-within : (used : List ℕ) (e : ℕ) → isNewElement used e ≡ true → (1 ≤ e) × (e ≤ readings) × (member e used ≡ false)
+element-within : (used : List ℕ) (e : ℕ) → is_new_element used e ≡ true → (1 ≤ e) × (e ≤ readings) × (member e used ≡ false)
 element-within used e h =
-    let p = both (isElement e) (not (member e used)) h in
+    let p = both (is_element e) (not (member e used)) h in
     let q = both (leb 1 e) (leb e readings) p.0 in
     (leb-true 1 e q.0, leb-true e readings q.1, flip (member e used) p.1)
   where
@@ -79,7 +79,7 @@ few-left used (e ∷ l) n =
     let w = element-within used e n.0 in
     omega (arith, few-left (used ++ e ∷ []) l n.1, one_fewer readings used e w.0 w.1 w.2)
 
-pub few-elements : (l : List ℕ) → New [] l → length l ≤ mostCharts
+pub few-elements : (l : List ℕ) → New [] l → length l ≤ most_charts
 unfolding member
 few-elements l n = few-left [] l n
 

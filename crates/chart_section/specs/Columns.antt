@@ -8,7 +8,7 @@ use Rattle.words.specs.FromFront.{Read}
 use Rattle.chart_section.specs.declared.Ended.{Ended}
 use Rattle.chart_section.specs.declared.Ended.TheVariants as ended
 use Rattle.chart_section.specs.declared.ChartColumns.{ChartColumns}
-use Rattle.chart_section.specs.ChartSection.{Chart, mostCharts, elementsOf, signalsIn, chartsOf}
+use Rattle.chart_section.specs.ChartSection.{Chart, most_charts, elements_of, signals_in, charts_of}
 
 pub record ColumnTerms : Type 0 where
   -- with so many words, or by the number of a refusal
@@ -19,25 +19,25 @@ pub record ColumnTerms : Type 0 where
 
 -- 'charts (0 to 10 ..)': a column has a place for each. What the charts have comes first, and beyond the last of them is 0
 abbrev pub column : List ℕ → List ℕ
-column entries = entries ++ replicate (mostCharts - length entries) 0
+column entries = entries ++ replicate (most_charts - length entries) 0
 
 -- reading ended so, and these are the charts
-abbrev pub columnsWith : Outcome ℕ → List Chart → ColumnTerms
-columnsWith end cs = record { ended = end; count = length cs; elements = column (elementsOf cs); signals = column (signalsIn cs) }
+abbrev pub columns_with : Outcome ℕ → List Chart → ColumnTerms
+columns_with end cs = record { ended = end; count = length cs; elements = column (elements_of cs); signals = column (signals_in cs) }
 
 -- by what was read at the front of the words s: the charts, and how many words they take; or, as 'A refusal returns its number,
 -- nothing else changes', that number and no chart: count 0, and 0 in every place
-abbrev pub columnsBy : List ℕ → Read (List Chart) → ColumnTerms
-columnsBy s (given p) = columnsWith (given (length s - length p.1)) p.0
-columnsBy s (refused n) = columnsWith (refused n) []
+abbrev pub columns_by : List ℕ → Read (List Chart) → ColumnTerms
+columns_by s (given p) = columns_with (given (length s - length p.1)) p.0
+columns_by s (refused n) = columns_with (refused n) []
 
-unfoldable pub columnsOf : List ℕ → ColumnTerms
-columnsOf s = columnsBy s (chartsOf s)
+unfoldable pub columns_of : List ℕ → ColumnTerms
+columns_of s = columns_by s (charts_of s)
 
 -- what was answered, in these terms
 abbrev pub end_of : Ended → Outcome ℕ
 end_of (ended.Whole size) = given size
 end_of (ended.Refused why) = refused (number_of why)
 
-abbrev pub termsOf : ChartColumns → ColumnTerms
-termsOf r = record { ended = end_of r.ended; count = r.count; elements = r.elements; signals = r.signals }
+abbrev pub terms_of : ChartColumns → ColumnTerms
+terms_of r = record { ended = end_of r.ended; count = r.count; elements = r.elements; signals = r.signals }

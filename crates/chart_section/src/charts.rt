@@ -2,8 +2,8 @@
 ghost use Rattle.std.specs.Prelude.{◌≡◌, [], ◌≤◌, length, get_or};
 ghost use Rattle.refusal.specs.Outcome.Outcome.{refused};
 ghost use Rattle.refusal.specs.Numbers.{number_of};
-ghost use Rattle.chart_section.specs.ChartSection.{mostCharts};
-ghost use Rattle.chart_section.specs.Columns.{columnsWith, columnsOf, termsOf};
+ghost use Rattle.chart_section.specs.ChartSection.{most_charts};
+ghost use Rattle.chart_section.specs.Columns.{columns_with, columns_of, terms_of};
 
 use crate::first::ChartRead;
 use crate::{ChartColumns, Ended, MOST_CHARTS, first};
@@ -11,7 +11,7 @@ use refusal::Refusal;
 
 // Why there are no charts.
 pub fn refused(why: Refusal) -> ChartColumns
-    ensures { termsOf result ≡ columnsWith (refused (number_of why)) [] }
+    ensures { terms_of result ≡ columns_with (refused (number_of why)) [] }
 {
     ChartColumns {
         ended: Ended::Refused(why),
@@ -23,8 +23,8 @@ pub fn refused(why: Refusal) -> ChartColumns
 
 // Reads so many charts, after the section's count.
 pub fn read_all(words: &[u32], count: usize) -> ChartColumns
-    requires { (1 ≤ length words.now) × (get_or words.now 0 0 ≡ count) × (count ≤ mostCharts) }
-    ensures { termsOf result ≡ columnsOf words.now }
+    requires { (1 ≤ length words.now) × (get_or words.now 0 0 ≡ count) × (count ≤ most_charts) }
+    ensures { terms_of result ≡ columns_of words.now }
 {
     let mut elements = [0u32; MOST_CHARTS];
     let mut signals = [0u32; MOST_CHARTS];

@@ -1,9 +1,9 @@
 // The elements of the charts: each is one of ten, and none comes twice.
 ghost use Rattle.std.specs.Prelude.{◌≡◌};
-ghost use Rattle.chart_section.specs.ChartSection.{member, isNewElement};
+ghost use Rattle.chart_section.specs.ChartSection.{member, is_new_element};
 
 pub fn is_new_element(used: &[u32], element: u32) -> bool
-    ensures { result ≡ isNewElement used.now element }
+    ensures { result ≡ is_new_element used.now element }
 {
     if !record::is_element(element) {
         return false;

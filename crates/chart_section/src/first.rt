@@ -1,7 +1,7 @@
 // The chart at the front of the words.
 ghost use Rattle.std.specs.Prelude.{◌≡◌, true, ◌≤◌, length, drop};
-ghost use Rattle.chart.specs.Values.{countsFit};
-ghost use Rattle.chart_section.specs.ChartSection.{headWords, values_of, chartOf};
+ghost use Rattle.chart.specs.Values.{counts_fit};
+ghost use Rattle.chart_section.specs.ChartSection.{head_words, values_of, chart_of};
 ghost use Rattle.chart_section.specs.Steps.{ChartSaid};
 
 use crate::{ELEMENT, HEAD_WORDS, LATER_COUNT, SETUP_COUNT, elements};
@@ -21,7 +21,7 @@ pub enum ChartRead {
 
 // Reads the chart; used are the elements of those before it.
 pub fn read_one(words: &[u32], used: &[u32]) -> ChartRead
-    ensures { ChartSaid result (chartOf used.now words.now) words.now }
+    ensures { ChartSaid result (chart_of used.now words.now) words.now }
 {
     if words.len() < HEAD_WORDS {
         return ChartRead::Refused(Refusal::BatchLength);
@@ -42,8 +42,8 @@ pub fn read_one(words: &[u32], used: &[u32]) -> ChartRead
 
 // Reads the values of a chart whose first three words are good. The test of the values is the chart's own.
 fn read_values(words: &[u32], element: u32, setup: usize, later: usize) -> ChartRead
-    requires { (headWords ≤ length words.now) × (countsFit setup later ≡ true) }
-    ensures { ChartSaid result (values_of element setup later (drop headWords words.now)) words.now }
+    requires { (head_words ≤ length words.now) × (counts_fit setup later ≡ true) }
+    ensures { ChartSaid result (values_of element setup later (drop head_words words.now)) words.now }
 {
     let middle = HEAD_WORDS + setup;
     let end = middle + later;

@@ -4,7 +4,7 @@ mod elements;
 mod first;
 
 ghost use Rattle.std.specs.Prelude.{◌≡◌};
-ghost use Rattle.chart_section.specs.Columns.{columnsOf, termsOf};
+ghost use Rattle.chart_section.specs.Columns.{columns_of, terms_of};
 
 use chart::values::{MOST_LATER, MOST_SETUP};
 use refusal::Refusal;
@@ -43,7 +43,7 @@ pub struct ChartColumns {
 
 // Reads the charts' section at the front of the words.
 pub fn read(words: &[u32]) -> ChartColumns
-    ensures { termsOf result ≡ columnsOf words.now }
+    ensures { terms_of result ≡ columns_of words.now }
 {
     if words.len() < 1 {
         return charts::refused(Refusal::BatchLength);

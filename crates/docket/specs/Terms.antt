@@ -18,17 +18,17 @@ pub data Standing : Type 0 where
   confirmed : Standing
   unsettled : Standing
 
-abbrev pub standingOf : State → Standing
-standingOf state.Open = «open»
-standingOf state.Consistent = consistent
-standingOf state.Confirmed = confirmed
-standingOf state.Unsettled = unsettled
+abbrev pub standing_of : State → Standing
+standing_of state.Open = «open»
+standing_of state.Consistent = consistent
+standing_of state.Confirmed = confirmed
+standing_of state.Unsettled = unsettled
 
-abbrev pub isOpen : Standing → Bool
-isOpen «open» = true
-isOpen consistent = false
-isOpen confirmed = false
-isOpen unsettled = false
+abbrev pub is_open : Standing → Bool
+is_open «open» = true
+is_open consistent = false
+is_open confirmed = false
+is_open unsettled = false
 
 -- a docket 'is open, consistent, confirmed or unsettled, has the count of analyses taken, and its last record'
 pub record DocketTerms : Type 0 where
@@ -36,25 +36,25 @@ pub record DocketTerms : Type 0 where
   pub count : ℕ
   pub held : List ℕ
 
-abbrev pub docketOf : Docket → DocketTerms
-docketOf d = record { state = standingOf d.state; count = d.count; held = d.held }
+abbrev pub docket_of : Docket → DocketTerms
+docket_of d = record { state = standing_of d.state; count = d.count; held = d.held }
 
 -- an answer is 'taken or a refusal's number'
 pub data Reply : Type 0 where
   taken : Reply
 
-abbrev pub answerOutcome : Answer → Outcome Reply
-answerOutcome answer.Taken = given taken
-answerOutcome (answer.Refused why) = refused (number_of why)
+abbrev pub answer_outcome : Answer → Outcome Reply
+answer_outcome answer.Taken = given taken
+answer_outcome (answer.Refused why) = refused (number_of why)
 
 -- the docket after an offer, and the answer
 pub record OfferedTerms : Type 0 where
   pub docket : DocketTerms
   pub answer : Outcome Reply
 
-abbrev pub offeredOf : Offered → OfferedTerms
-offeredOf o = record { docket = docketOf o.docket; answer = answerOutcome o.answer }
+abbrev pub offered_of : Offered → OfferedTerms
+offered_of o = record { docket = docket_of o.docket; answer = answer_outcome o.answer }
 
 -- 'it takes at most three'
-abbrev pub mostTaken : ℕ
-mostTaken = 3
+abbrev pub most_taken : ℕ
+most_taken = 3

@@ -6,8 +6,8 @@ mod standing;
 mod taking;
 
 ghost use Rattle.std.specs.Prelude.{◌≡◌};
-ghost use Rattle.docket.specs.Terms.{docketOf, offeredOf};
-ghost use Rattle.docket.specs.Offers.{offerOf};
+ghost use Rattle.docket.specs.Terms.{docket_of, offered_of};
+ghost use Rattle.docket.specs.Offers.{offer_of};
 ghost use Rattle.docket.specs.Following.{Fresh, ListTheorem};
 
 use refusal::Refusal;
@@ -50,7 +50,7 @@ pub struct Offered {
 // A docket that took nothing. The record it holds is left open: the one thing of this crate that is stated by a property.
 // The second promise is the claim about every list of offers.
 pub fn fresh() -> Docket
-    ensures empty { Fresh (docketOf result) }
+    ensures empty { Fresh (docket_of result) }
     ensures followed { ListTheorem }
 {
     Docket {
@@ -62,7 +62,7 @@ pub fn fresh() -> Docket
 
 // Offers a record to a docket. A refused offer returns the docket as it was.
 pub fn offer(docket: Docket, words: &[u32]) -> Offered
-    ensures { offeredOf result ≡ offerOf (docketOf docket) words.now }
+    ensures { offered_of result ≡ offer_of (docket_of docket) words.now }
 {
     let state = docket.state;
     if !standing::is_open(state) {

@@ -2,10 +2,10 @@
 ghost use Rattle.std.specs.Prelude.{◌≡◌, false};
 ghost use Rattle.refusal.specs.Outcome.Outcome.{given};
 ghost use Rattle.refusal.specs.Numbers.{number_of};
-ghost use Rattle.judge.specs.Judgements.{numbersOf, judgementOf};
-ghost use Rattle.judge.specs.Repeats.{comparisonOutcome, comparisonOf};
-ghost use Rattle.docket.specs.Terms.{standingOf, isOpen, docketOf, offeredOf};
-ghost use Rattle.docket.specs.Offers.{refusedOffer, offerOf};
+ghost use Rattle.judge.specs.Judgements.{numbers_of, judgement_of};
+ghost use Rattle.judge.specs.Repeats.{comparison_outcome, comparison_of};
+ghost use Rattle.docket.specs.Terms.{standing_of, is_open, docket_of, offered_of};
+ghost use Rattle.docket.specs.Offers.{refused_offer, offer_of};
 ghost use Rattle.docket.specs.Steps.{Empty, Waiting};
 
 use crate::{Answer, Docket, MOST, Offered, taking};
@@ -14,8 +14,8 @@ use refusal::Refusal;
 
 // Closed: nothing is judged or compared, only the record's own tests go before refusal 11.
 pub fn offer_closed(docket: Docket, words: &[u32]) -> Offered
-    requires { isOpen (standingOf docket.state) ≡ false }
-    ensures { offeredOf result ≡ offerOf (docketOf docket) words.now }
+    requires { is_open (standing_of docket.state) ≡ false }
+    ensures { offered_of result ≡ offer_of (docket_of docket) words.now }
 {
     match judge::test(words) {
         Acceptance::Accepted => refused(docket, Refusal::DocketClosed),
@@ -25,8 +25,8 @@ pub fn offer_closed(docket: Docket, words: &[u32]) -> Offered
 
 // Empty: nothing is held that the record could be compared with.
 pub fn offer_first(docket: Docket, words: &[u32]) -> Offered
-    requires { Empty (docketOf docket) }
-    ensures { offeredOf result ≡ offerOf (docketOf docket) words.now }
+    requires { Empty (docket_of docket) }
+    ensures { offered_of result ≡ offer_of (docket_of docket) words.now }
 {
     match judge::judge(words) {
         Judgement::Judged(verdicts) => taking::take(0, words, verdicts, false),
@@ -36,8 +36,8 @@ pub fn offer_first(docket: Docket, words: &[u32]) -> Offered
 
 // A repeat is judged and compared with the record held at once, so that each is tested once.
 pub fn offer_repeat(docket: Docket, words: &[u32]) -> Offered
-    requires { Waiting (docketOf docket) }
-    ensures { offeredOf result ≡ offerOf (docketOf docket) words.now }
+    requires { Waiting (docket_of docket) }
+    ensures { offered_of result ≡ offer_of (docket_of docket) words.now }
 {
     let repeat = judge::judge_repeat(&docket.held, words);
     let comparison = repeat.comparison;
@@ -56,10 +56,10 @@ fn offer_judged(
     verdicts: Verdicts,
     comparison: Comparison,
 ) -> Offered
-    requires waiting { Waiting (docketOf docket) }
-    requires judged { judgementOf words.now ≡ given (numbersOf verdicts) }
-    requires compared { comparisonOutcome comparison ≡ comparisonOf docket.held words.now }
-    ensures { offeredOf result ≡ offerOf (docketOf docket) words.now }
+    requires waiting { Waiting (docket_of docket) }
+    requires judged { judgement_of words.now ≡ given (numbers_of verdicts) }
+    requires compared { comparison_outcome comparison ≡ comparison_of docket.held words.now }
+    ensures { offered_of result ≡ offer_of (docket_of docket) words.now }
 {
     if docket.count >= MOST {
         return refused(docket, Refusal::DocketClosed);
@@ -74,7 +74,7 @@ fn offer_judged(
 
 // The docket comes back as it was.
 fn refused(docket: Docket, why: Refusal) -> Offered
-    ensures { offeredOf result ≡ refusedOffer (docketOf docket) (number_of why) }
+    ensures { offered_of result ≡ refused_offer (docket_of docket) (number_of why) }
 {
     Offered {
         docket: docket,

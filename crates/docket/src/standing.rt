@@ -1,12 +1,12 @@
 // Where a docket stands.
 ghost use Rattle.std.specs.Prelude.{◌≡◌};
-ghost use Rattle.docket.specs.Terms.{standingOf, isOpen};
-ghost use Rattle.docket.specs.Offers.{standingAfter};
+ghost use Rattle.docket.specs.Terms.{standing_of, is_open};
+ghost use Rattle.docket.specs.Offers.{standing_after};
 
 use crate::{MOST, State};
 
 pub fn is_open(state: State) -> bool
-    ensures { result ≡ isOpen (standingOf state) }
+    ensures { result ≡ is_open (standing_of state) }
 {
     match state {
         State::Open => true,
@@ -18,7 +18,7 @@ pub fn is_open(state: State) -> bool
 
 // With its count-th record, that passed or not, and agrees with the one before it or not.
 pub fn state_after(count: u32, passed: bool, confirms: bool) -> State
-    ensures { standingOf result ≡ standingAfter count passed confirms }
+    ensures { standing_of result ≡ standing_after count passed confirms }
 {
     if passed {
         return State::Consistent;

@@ -7,8 +7,8 @@ use lib.Dec.{T, leb, ltb, eqb, leb→le, ltb→lt}
 use lib.ListN.{get_or}
 use lib.Ieee.Fits.{and_l, and_r}
 use borrow.Author.Tests.{eq-eqb}
-use Rattle.hydrogen.specs.Floors.{leastPh, is_whole, WholePh, hundredth, power, floorAt}
-use Rattle.hydrogen.specs.SmallerTable.{tableLength}
+use Rattle.hydrogen.specs.Floors.{least_ph, is_whole, WholePh, hundredth, power, floor_at}
+use Rattle.hydrogen.specs.SmallerTable.{table_length}
 use Rattle.refusal.proofs.Tables.{every, at}
 use Rattle.hydrogen.proofs.Root.{floor-is}
 
@@ -44,7 +44,7 @@ floors =
     1096478196143 ∷ 1071519305237 ∷ 1047128548050 ∷ 1023292992280 ∷ []
 
 -- the one computed test, over p from 200 on
-tested : T (every right leastPh floors)
+tested : T (every right least_ph floors)
 unfolding floors power
 tested = tt
 
@@ -58,7 +58,7 @@ module _ (p x : ℕ) (passes : T (right p x)) where
   rest : T (high p x && alone p x)
   rest = and_r (low p x) (high p x && alone p x) passes
 
-  is-floor : floorAt p ≡ x
+  is-floor : floor_at p ≡ x
   is-floor =
       floor-is p x (leb→le (hundredth x) (power p) (and_l (low p x) (high p x && alone p x) passes))
       (ltb→lt (power p) (hundredth (x + 1)) (and_l (high p x) (alone p x) rest))
@@ -67,15 +67,15 @@ module _ (p x : ℕ) (passes : T (right p x)) where
   is-whole e =
       unless (is_whole p) (eqb (hundredth x) (power p)) (and_r (high p x) (alone p x) rest) (eq-eqb (hundredth x) (power p) e)
 
-module _ (k : ℕ) (u : k < tableLength) where
-  entry-passes : T (right (leastPh + k) (get_or floors k 0))
+module _ (k : ℕ) (u : k < table_length) where
+  entry-passes : T (right (least_ph + k) (get_or floors k 0))
   unfolding floors
-  entry-passes = at right floors leastPh tested k u
+  entry-passes = at right floors least_ph tested k u
 
   -- the entry is the floor
-  pub floor-entry : floorAt (leastPh + k) ≡ get_or floors k 0
-  floor-entry = is-floor (leastPh + k) (get_or floors k 0) entry-passes
+  pub floor-entry : floor_at (least_ph + k) ≡ get_or floors k 0
+  floor-entry = is-floor (least_ph + k) (get_or floors k 0) entry-passes
 
   -- and is exact at a whole pH alone
-  pub entry_whole : hundredth (floorAt (leastPh + k)) ≡ power (leastPh + k) → WholePh (leastPh + k)
-  entry_whole = rw floor-entry (is-whole (leastPh + k) (get_or floors k 0) entry-passes)
+  pub entry_whole : hundredth (floor_at (least_ph + k)) ≡ power (least_ph + k) → WholePh (least_ph + k)
+  entry_whole = rw floor-entry (is-whole (least_ph + k) (get_or floors k 0) entry-passes)

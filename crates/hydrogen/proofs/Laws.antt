@@ -12,7 +12,7 @@ use borrow.Author.Tests.{lt-ltb, le-ltb}
 use Rattle.refusal.specs.Outcome.Outcome.{given, refused}
 use Rattle.refusal.specs.Numbers.{number_of}
 use Rattle.refusal.specs.declared.Refusal.TheVariants as refusal
-use Rattle.hydrogen.specs.Floors.{leastPh, greatestPh, hundredth, power, floorAt, mostFloor, floorOf}
+use Rattle.hydrogen.specs.Floors.{least_ph, greatest_ph, hundredth, power, floor_at, most_floor, floor_of}
 use Rattle.hydrogen.specs.TrueHydrogen.{FractionLe, FloorRule, HydrogenAt}
 use Rattle.hydrogen.proofs.Root as root
 use Rattle.hydrogen.proofs.Rule.{floor-rule}
@@ -20,55 +20,55 @@ use Rattle.hydrogen.proofs.Placing.{placing}
 use Rattle.hydrogen.proofs.Order.{ordered}
 
 -- at every p in range
-pub hydrogen-at : (p : ℕ) → leastPh ≤ p → p ≤ greatestPh → HydrogenAt p
-hydrogen-at p l u = record { rule = floor-rule p l u; placed = placing p (floorAt p) (floor-rule p l u); ordered = ordered p }
+pub hydrogen-at : (p : ℕ) → least_ph ≤ p → p ≤ greatest_ph → HydrogenAt p
+hydrogen-at p l u = record { rule = floor-rule p l u; placed = placing p (floor_at p) (floor-rule p l u); ordered = ordered p }
 
 -- the two bounds name the floor
-pub floor-is : (p h : ℕ) → hundredth h ≤ power p → power p < hundredth (h + 1) → floorAt p ≡ h
+pub floor-is : (p h : ℕ) → hundredth h ≤ power p → power p < hundredth (h + 1) → floor_at p ≡ h
 floor-is p h low high = root.floor-is p h low high
 
 -- the floor at the least pH, by its rule, and that no floor is above it: what the hundredth power is up to falls as p rises
-pub floor-at-least : floorAt leastPh ≡ mostFloor
+pub floor-at-least : floor_at least_ph ≡ most_floor
 unfolding power
-floor-at-least = root.floor-is leastPh mostFloor (lit≤ tt) (lit< tt)
+floor-at-least = root.floor-is least_ph most_floor (lit≤ tt) (lit< tt)
 
 falls : (b n l p : ℕ) → 0 < b → l ≤ p → b ^ (n - p) ≤ b ^ (n - l)
 falls b n l p some h = let fewer : n - p ≤ n - l = omega arith in pow-le-pow_right some fewer
 
-power-falls : (p : ℕ) → leastPh ≤ p → power p ≤ power leastPh
+power-falls : (p : ℕ) → least_ph ≤ p → power p ≤ power least_ph
 unfolding power
-power-falls p h = falls _ _ leastPh p (omega arith) h
+power-falls p h = falls _ _ least_ph p (omega arith) h
 
-pub floor-most : (p : ℕ) → leastPh ≤ p → p ≤ greatestPh → floorAt p ≤ mostFloor
+pub floor-most : (p : ℕ) → least_ph ≤ p → p ≤ greatest_ph → floor_at p ≤ most_floor
 floor-most p l u =
-    let least : FloorRule leastPh (floorAt leastPh) = floor-rule leastPh (omega arith) (omega arith) in
-    rw (← floor-at-least) (least.greatest (floorAt p) (le_trans (floor-rule p l u).low (power-falls p l)))
+    let least : FloorRule least_ph (floor_at least_ph) = floor-rule least_ph (omega arith) (omega arith) in
+    rw (← floor-at-least) (least.greatest (floor_at p) (le_trans (floor-rule p l u).low (power-falls p l)))
 
 -- the floor's answer, by the range of p
-pub floor-in-range : (p : ℕ) → leastPh ≤ p → p ≤ greatestPh → floorOf p ≡ given (floorAt p)
-unfolding floorOf
-floor-in-range p l u = rw (le-ltb p leastPh l, le-ltb greatestPh p u)
+pub floor-in-range : (p : ℕ) → least_ph ≤ p → p ≤ greatest_ph → floor_of p ≡ given (floor_at p)
+unfolding floor_of
+floor-in-range p l u = rw (le-ltb p least_ph l, le-ltb greatest_ph p u)
 
-pub floor-out-of-range : (p : ℕ) → (p < leastPh) ⊎ (greatestPh < p) → floorOf p ≡ refused (number_of refusal.Ph)
-unfolding floorOf
-floor-out-of-range p = ⊎_elim (λ a. rw (lt-ltb p leastPh a)) (λ b. rw (lt-ltb greatestPh p b, or-true (ltb p leastPh)))
+pub floor-out-of-range : (p : ℕ) → (p < least_ph) ⊎ (greatest_ph < p) → floor_of p ≡ refused (number_of refusal.Ph)
+unfolding floor_of
+floor-out-of-range p = ⊎_elim (λ a. rw (lt-ltb p least_ph a)) (λ b. rw (lt-ltb greatest_ph p b, or-true (ltb p least_ph)))
 
 -- p is out of its range or in it
-range-of : (p : ℕ) → ((p < leastPh) ⊎ (greatestPh < p)) ⊎ ((leastPh ≤ p) × (p ≤ greatestPh))
-range-of p = go (dec_lt p leastPh) (dec_lt greatestPh p)
+range-of : (p : ℕ) → ((p < least_ph) ⊎ (greatest_ph < p)) ⊎ ((least_ph ≤ p) × (p ≤ greatest_ph))
+range-of p = go (dec_lt p least_ph) (dec_lt greatest_ph p)
   where
-    go : Dec (p < leastPh) → Dec (greatestPh < p) → ((p < leastPh) ⊎ (greatestPh < p)) ⊎ ((leastPh ≤ p) × (p ≤ greatestPh))
+    go : Dec (p < least_ph) → Dec (greatest_ph < p) → ((p < least_ph) ⊎ (greatest_ph < p)) ⊎ ((least_ph ≤ p) × (p ≤ greatest_ph))
     go (yes a) b = inl (inl a)
     go (no a) (yes b) = inl (inr b)
     go (no a) (no b) = inr (omega (arith, a), omega (arith, b))
 
 -- a floor was given: p is in its range, and it is the floor at p
 pub record FloorGiven (p h : ℕ) : Type 0 where
-  pub least : leastPh ≤ p
-  pub most : p ≤ greatestPh
-  pub is : h ≡ floorAt p
+  pub least : least_ph ≤ p
+  pub most : p ≤ greatest_ph
+  pub is : h ≡ floor_at p
 
-pub floor-given : (p h : ℕ) → floorOf p ≡ given h → FloorGiven p h
+pub floor-given : (p h : ℕ) → floor_of p ≡ given h → FloorGiven p h
 floor-given p h e =
     ⊎_elim (λ o. let z : ◌≡◌ {A = ℕ} 0 1 = cc (floor-out-of-range p o) in absurd (omega arith))
     (λ i. record { least = i.0; most = i.1; is = cc (floor-in-range p i.0 i.1) })
@@ -76,10 +76,10 @@ floor-given p h e =
 
 -- the floor was refused: p is out of its range, and the number is that of the pH
 pub record FloorRefused (p n : ℕ) : Type 0 where
-  pub out : (p < leastPh) ⊎ (greatestPh < p)
+  pub out : (p < least_ph) ⊎ (greatest_ph < p)
   pub number : n ≡ number_of refusal.Ph
 
-pub floor-refused : (p n : ℕ) → floorOf p ≡ refused n → FloorRefused p n
+pub floor-refused : (p n : ℕ) → floor_of p ≡ refused n → FloorRefused p n
 floor-refused p n e =
     ⊎_elim (λ o. record { out = o; number = cc (floor-out-of-range p o) })
     (λ i. let z : ◌≡◌ {A = ℕ} 0 1 = cc (floor-in-range p i.0 i.1) in absurd (omega arith))

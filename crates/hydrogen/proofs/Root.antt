@@ -8,7 +8,7 @@ use native.Mathlib.Decide.{dec_le}
 use native.Mathlib.Omega.{arith}
 use lib.Dec.{leb}
 use borrow.Author.Tests.{le-leb, lt-leb}
-use Rattle.hydrogen.specs.Floors.{hundredth, root, power, floorAt}
+use Rattle.hydrogen.specs.Floors.{hundredth, root, power, floor_at}
 use Rattle.hydrogen.proofs.Powers.{keeps-le, lt_back, le-own-power}
 
 -- searched down from k: what is found is small enough
@@ -35,27 +35,27 @@ root-greatest n (suc k) x low l = go (dec_le (hundredth (suc k)) n) (root-greate
         rw (lt-leb (hundredth (suc k)) n over) (below (omega (arith, less)))
 
 module _ (p : ℕ) where
-  pub floor-low : hundredth (floorAt p) ≤ power p
-  unfolding floorAt
+  pub floor-low : hundredth (floor_at p) ≤ power p
+  unfolding floor_at
   floor-low = root-low (power p) (power p)
 
-  pub floor-greatest : (x : ℕ) → hundredth x ≤ power p → x ≤ floorAt p
-  unfolding floorAt
+  pub floor-greatest : (x : ℕ) → hundredth x ≤ power p → x ≤ floor_at p
+  unfolding floor_at
   floor-greatest x low = root-greatest (power p) (power p) x low (le_trans (le-own-power x) low)
 
-  pub floor-high : power p < hundredth (floorAt p + 1)
-  floor-high = go (dec_le (hundredth (floorAt p + 1)) (power p))
+  pub floor-high : power p < hundredth (floor_at p + 1)
+  floor-high = go (dec_le (hundredth (floor_at p + 1)) (power p))
     where
-      go : Dec (hundredth (floorAt p + 1) ≤ power p) → power p < hundredth (floorAt p + 1)
-      go (yes m) = let over : floorAt p + 1 ≤ floorAt p = floor-greatest (floorAt p + 1) m in absurd (omega (arith, over))
+      go : Dec (hundredth (floor_at p + 1) ≤ power p) → power p < hundredth (floor_at p + 1)
+      go (yes m) = let over : floor_at p + 1 ≤ floor_at p = floor-greatest (floor_at p + 1) m in absurd (omega (arith, over))
       go (no f) = omega (arith, f)
 
-  pub floor-is : (h : ℕ) → hundredth h ≤ power p → power p < hundredth (h + 1) → floorAt p ≡ h
+  pub floor-is : (h : ℕ) → hundredth h ≤ power p → power p < hundredth (h + 1) → floor_at p ≡ h
   floor-is h low high =
-      let least : h ≤ floorAt p = floor-greatest h low in
-      let most : floorAt p < h + 1 = lt_back (lt_of_le_of_lt floor-low high) in
+      let least : h ≤ floor_at p = floor-greatest h low in
+      let most : floor_at p < h + 1 = lt_back (lt_of_le_of_lt floor-low high) in
       omega (arith, least, most)
 
   -- where H is a whole number, it is its own floor
-  pub exact-by : (x : ℕ) → hundredth x ≡ power p → hundredth (floorAt p) ≡ power p
+  pub exact-by : (x : ℕ) → hundredth x ≡ power p → hundredth (floor_at p) ≡ power p
   exact-by x e = le_antisymm floor-low (le_trans (le_of_eq (sym e)) (keeps-le (floor-greatest x (le_of_eq e))))

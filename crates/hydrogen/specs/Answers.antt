@@ -6,6 +6,6 @@ use Rattle.refusal.specs.Numbers.{number_of}
 use Rattle.hydrogen.specs.declared.FloorResult.{FloorResult}
 use Rattle.hydrogen.specs.declared.FloorResult.TheVariants as floor
 
-abbrev pub floorOutcome : FloorResult → Outcome ℕ
-floorOutcome (floor.Given h) = given h
-floorOutcome (floor.Refused why) = refused (number_of why)
+abbrev pub floor_outcome : FloorResult → Outcome ℕ
+floor_outcome (floor.Given h) = given h
+floor_outcome (floor.Refused why) = refused (number_of why)

@@ -6,11 +6,11 @@ use Rattle.refusal.specs.Numbers.{number_of}
 use Rattle.refusal.specs.declared.Refusal.TheVariants as refusal
 
 -- 'pH in hundredths, called p, 200 to 1,000'
-abbrev pub leastPh : ℕ
-leastPh = 200
+abbrev pub least_ph : ℕ
+least_ph = 200
 
-abbrev pub greatestPh : ℕ
-greatestPh = 1000
+abbrev pub greatest_ph : ℕ
+greatest_ph = 1000
 
 -- 'p is a multiple of 100', as a test and as a fact
 abbrev pub is_whole : ℕ → Bool
@@ -34,13 +34,13 @@ root n (suc k) = cond (leb (hundredth (suc k)) n) (suc k) (root n k)
 
 -- 'its floor h is the greatest whole number whose hundredth power is at most 10^(1500−p)'.
 -- No number is above its hundredth power, so none above 10^(1500−p) is left out. This definition is never computed
-unfoldable pub floorAt : ℕ → ℕ
-floorAt p = root (power p) (power p)
+unfoldable pub floor_at : ℕ → ℕ
+floor_at p = root (power p) (power p)
 
 -- the floor at the least pH, which is the greatest of all: 10^((1500 − 200)/100) u
-abbrev pub mostFloor : ℕ
-mostFloor = 10 ^ 13
+abbrev pub most_floor : ℕ
+most_floor = 10 ^ 13
 
 -- the floor at p; refusal 4, 'pH', where p is out of its range
-unfoldable pub floorOf : ℕ → Outcome ℕ
-floorOf p = cond (ltb p leastPh || ltb greatestPh p) (refused (number_of refusal.Ph)) (given (floorAt p))
+unfoldable pub floor_of : ℕ → Outcome ℕ
+floor_of p = cond (ltb p least_ph || ltb greatest_ph p) (refused (number_of refusal.Ph)) (given (floor_at p))

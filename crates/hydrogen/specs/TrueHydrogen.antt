@@ -1,7 +1,7 @@
 -- Document 01, 'Hydrogen': true hydrogen H at p, compared with fractions, and where its floor stands to it.
 -- In a fraction a / b, a is a whole number of either sign and b a natural number above 0.
 use Rattle.std.specs.Prelude.{◌≡◌, ◌↔◌, ◌⊎◌, ℕ, suc, ◌+◌, ◌*◌, ◌≤◌, ◌<◌, ℤ, pos, negsuc}
-use Rattle.hydrogen.specs.Floors.{WholePh, hundredth, power, floorAt}
+use Rattle.hydrogen.specs.Floors.{WholePh, hundredth, power, floor_at}
 
 -- 'H is at most the fraction A/B exactly when A isn't negative and 10^(1500−p) × B^100 is at most A^100'
 abbrev pub HAtMost : ℕ → ℤ → ℕ → Type 0
@@ -64,8 +64,8 @@ pub record Ordered (p : ℕ) : Type 0 where
 -- what document 01 says of H at p and its floor
 pub record HydrogenAt (p : ℕ) : Type 0 where
   -- the floor is the greatest whole number that its rule allows
-  pub rule : FloorRule p (floorAt p)
+  pub rule : FloorRule p (floor_at p)
   -- H is the floor, or strictly between it and the next number
-  pub placed : Placed p (floorAt p)
+  pub placed : Placed p (floor_at p)
   -- 'at most' and 'at least' give H one place
   pub ordered : Ordered p

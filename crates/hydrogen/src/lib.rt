@@ -4,8 +4,8 @@ mod rows;
 mod table;
 
 ghost use Rattle.std.specs.Prelude.{◌≡◌, ◌≤◌};
-ghost use Rattle.hydrogen.specs.Answers.{floorOutcome};
-ghost use Rattle.hydrogen.specs.Floors.{leastPh, greatestPh, is_whole, floorOf};
+ghost use Rattle.hydrogen.specs.Answers.{floor_outcome};
+ghost use Rattle.hydrogen.specs.Floors.{least_ph, greatest_ph, is_whole, floor_of};
 ghost use Rattle.hydrogen.specs.TrueHydrogen.{HydrogenAt};
 
 use refusal::Refusal;
@@ -31,8 +31,8 @@ pub enum FloorResult {
 
 // The floor of true hydrogen at p. The second promise says where H itself stands to it.
 pub fn floor_at(p: u32) -> FloorResult
-    ensures answer { floorOutcome result ≡ floorOf p }
-    ensures truth { leastPh ≤ p → p ≤ greatestPh → HydrogenAt p }
+    ensures answer { floor_outcome result ≡ floor_of p }
+    ensures truth { least_ph ≤ p → p ≤ greatest_ph → HydrogenAt p }
 {
     if p < LEAST_PH || p > GREATEST_PH {
         return FloorResult::Refused(Refusal::Ph);

@@ -1,6 +1,6 @@
 // Words from standard input: four bytes each, least byte first.
 ghost use Rattle.std.specs.Prelude.{◌≤◌, length};
-ghost use Rattle.input.specs.Input.{mostBytes, Came};
+ghost use Rattle.input.specs.Input.{most_bytes, Came};
 
 use libc::STDIN_FILENO;
 use words::WORD_BYTES;
@@ -30,7 +30,7 @@ pub fn read(words: &mut [u32]) -> Got
 
 // The same through a buffer, for so many bytes.
 fn fill(words: &mut [u32], buffer: &mut [u8], wanted: usize) -> Got
-    requires { (wanted ≤ length buffer.old) × (wanted ≤ mostBytes words.old) }
+    requires { (wanted ≤ length buffer.old) × (wanted ≤ most_bytes words.old) }
     ensures came { Came words.old words.new result }
     ensures inside { result.words ≤ length words.new }
 {

@@ -6,28 +6,28 @@ use native.Mathlib.Omega.{arith}
 use lib.ListN.{length, take, length-append}
 use Rattle.refusal.specs.Lent.{placed}
 use Rattle.refusal.proofs.PlaceLaws.{placed-take, length-placed}
-use Rattle.words.specs.Sections.{allWords}
+use Rattle.words.specs.Sections.{all_words}
 use Rattle.words.proofs.SectionLaws.{words_append}
-use Rattle.chart_section.specs.ChartSection.{Chart, mostChart, chartWords}
-use Rattle.joining.specs.Steps.{bufferWords, Filled}
+use Rattle.chart_section.specs.ChartSection.{Chart, most_chart, chart_words}
+use Rattle.joining.specs.Steps.{buffer_words, Filled}
 
-words_more : (l : List Chart) (c : Chart) → allWords chartWords (l ++ c ∷ []) ≡ allWords chartWords l ++ chartWords c
-unfolding allWords
-words_more l c = words_append chartWords l (c ∷ []) ∙ ap (λ (t : List ℕ). allWords chartWords l ++ t) (append-nil (chartWords c))
+words_more : (l : List Chart) (c : Chart) → all_words chart_words (l ++ c ∷ []) ≡ all_words chart_words l ++ chart_words c
+unfolding all_words
+words_more l c = words_append chart_words l (c ∷ []) ∙ ap (λ (t : List ℕ). all_words chart_words l ++ t) (append-nil (chart_words c))
 
-pub filled_none : (charts : List ℕ) → length charts ≡ bufferWords → Filled charts 0 []
-unfolding allWords
+pub filled_none : (charts : List ℕ) → length charts ≡ buffer_words → Filled charts 0 []
+unfolding all_words
 filled_none charts h = record { room = h; long = refl; holds = refl; bound = omega arith }
 
-pub filled_next : (charts new : List ℕ) (size end : ℕ) (held : List Chart) (c : Chart) → Filled charts size held → size + mostChart ≤ length charts
-    → new ≡ placed charts size (chartWords c) → end ≡ size + length (chartWords c) → length (chartWords c) ≤ mostChart → Filled new end (held ++ c ∷ [])
+pub filled_next : (charts new : List ℕ) (size end : ℕ) (held : List Chart) (c : Chart) → Filled charts size held → size + most_chart ≤ length charts
+    → new ≡ placed charts size (chart_words c) → end ≡ size + length (chart_words c) → length (chart_words c) ≤ most_chart → Filled new end (held ++ c ∷ [])
 filled_next charts new size end held c f h put e few =
-    let words : List ℕ = chartWords c in
+    let words : List ℕ = chart_words c in
     let more = words_more held c in
     let fits : size + length words ≤ length charts = omega arith in
     record {
       room = ap length put ∙ length-placed charts size words fits ∙ f.room;
-      long = omega (arith, e, f.long, ap length more, length-append (allWords chartWords held) words);
+      long = omega (arith, e, f.long, ap length more, length-append (all_words chart_words held) words);
       holds =
           ap (take end) put
           ∙ ap (λ (n : ℕ). take n (placed charts size words)) e

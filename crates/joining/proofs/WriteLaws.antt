@@ -11,10 +11,10 @@ use Rattle.refusal.specs.Lent.{placed}
 use Rattle.refusal.specs.declared.Refusal.TheVariants as refusal
 use Rattle.refusal.proofs.LentLaws.{Answers, refused-before, too_short, written as written-whole}
 use Rattle.refusal.proofs.PlaceLaws.{placed-front}
-use Rattle.words.specs.Placing.{placedWithin}
+use Rattle.words.specs.Placing.{placed_within}
 use Rattle.words.proofs.Laws.{placed-all, placed-behind}
 use Rattle.words.proofs.SliceLaws.{rest_of}
-use Rattle.batch.specs.Batches.{mostSamples}
+use Rattle.batch.specs.Batches.{most_samples}
 use Rattle.joining.specs.Steps.{finished}
 
 module _ (count : ℕ) (charts first second old : List ℕ) where
@@ -27,14 +27,14 @@ module _ (count : ℕ) (charts first second old : List ℕ) where
   abbrev size : ℕ
   size = 1 + length charts + length first + length second - 1
 
-  pub write-over : mostSamples < samples → Answers (finished count charts first second) old (refused (number_of refusal.JoinedCount)) old
+  pub write-over : most_samples < samples → Answers (finished count charts first second) old (refused (number_of refusal.JoinedCount)) old
   unfolding finished
-  write-over h = refused-before (finished count charts first second) old (number_of refusal.JoinedCount) (sym (rw (lt-leb samples mostSamples h)))
+  write-over h = refused-before (finished count charts first second) old (number_of refusal.JoinedCount) (sym (rw (lt-leb samples most_samples h)))
 
-  module _ (few : samples ≤ mostSamples) (f : 1 ≤ length first) (s : 1 ≤ length second) where
+  module _ (few : samples ≤ most_samples) (f : 1 ≤ length first) (s : 1 ≤ length second) where
     whole : finished count charts first second ≡ given words
     unfolding finished
-    whole = rw (le-leb samples mostSamples few)
+    whole = rw (le-leb samples most_samples few)
 
     long : length words ≡ size
     long =
@@ -50,11 +50,11 @@ module _ (count : ℕ) (charts first second old : List ℕ) where
     write-short h = too_short (finished count charts first second) old words whole (omega (arith, long))
 
     pub write-whole : size ≤ length old → (a b c d e : List ℕ)
-        → a ≡ placedWithin old 0 (count ∷ [])
-        → b ≡ placedWithin a 1 charts
-        → c ≡ placedWithin b (1 + length charts) (samples ∷ [])
-        → d ≡ placedWithin c (1 + length charts + 1) (take (length first - 1) (drop 1 first))
-        → e ≡ placedWithin d (1 + length charts + length first) (take (length second - 1) (drop 1 second))
+        → a ≡ placed_within old 0 (count ∷ [])
+        → b ≡ placed_within a 1 charts
+        → c ≡ placed_within b (1 + length charts) (samples ∷ [])
+        → d ≡ placed_within c (1 + length charts + 1) (take (length first - 1) (drop 1 first))
+        → e ≡ placed_within d (1 + length charts + length first) (take (length second - 1) (drop 1 second))
         → Answers (finished count charts first second) old (given size) e
     write-whole h a b c d e p₁ p₂ p₃ p₄ p₅ =
         let front : List ℕ = take (length first - 1) (drop 1 first) in

@@ -3,7 +3,7 @@ use Rattle.std.specs.Prelude.{Bool, true, false, ◌&&◌, cond, List, [], ◌�
 use Rattle.refusal.specs.Outcome.{Outcome, demand}
 use Rattle.refusal.specs.Numbers.{number_of}
 use Rattle.refusal.specs.declared.Refusal.TheVariants as refusal
-use Rattle.chart.specs.Values.{mostLater}
+use Rattle.chart.specs.Values.{most_later}
 use Rattle.chart_section.specs.ChartSection.{Chart}
 
 -- ---- 'a chart in both'
@@ -17,51 +17,51 @@ pub data Match : Type 0 where
   alone : Match
   both : Chart → Match
 
-unfoldable pub matchIn : List Chart → ℕ → Match
-matchIn [] key = Match.alone
-matchIn (d ∷ ds) key = cond (eqb (key_of d) key) (Match.both d) (matchIn ds key)
+unfoldable pub match_in : List Chart → ℕ → Match
+match_in [] key = Match.alone
+match_in (d ∷ ds) key = cond (eqb (key_of d) key) (Match.both d) (match_in ds key)
 
 -- ---- the joined charts
 
 -- 'its later values are joined, first batch first'
-abbrev pub joinedWith : Chart → Match → Chart
-joinedWith c Match.alone = c
-joinedWith c (Match.both d) = record { element = c.element; setup = c.setup; later = c.later ++ d.later }
+abbrev pub joined_with : Chart → Match → Chart
+joined_with c Match.alone = c
+joined_with c (Match.both d) = record { element = c.element; setup = c.setup; later = c.later ++ d.later }
 
-abbrev pub joinedChart : List Chart → Chart → Chart
-joinedChart second c = joinedWith c (matchIn second (key_of c))
+abbrev pub joined_chart : List Chart → Chart → Chart
+joined_chart second c = joined_with c (match_in second (key_of c))
 
 -- 'those found only in the second': a chart of it, before others, by what the first has for it
-abbrev pub unlessMatched : Match → Chart → List Chart → List Chart
-unlessMatched Match.alone d rest = d ∷ rest
-unlessMatched (Match.both c) d rest = rest
+abbrev pub unless_matched : Match → Chart → List Chart → List Chart
+unless_matched Match.alone d rest = d ∷ rest
+unless_matched (Match.both c) d rest = rest
 
-unfoldable pub onlyIn : List Chart → List Chart → List Chart
-onlyIn first [] = []
-onlyIn first (d ∷ ds) = unlessMatched (matchIn first (key_of d)) d (onlyIn first ds)
+unfoldable pub only_in : List Chart → List Chart → List Chart
+only_in first [] = []
+only_in first (d ∷ ds) = unless_matched (match_in first (key_of d)) d (only_in first ds)
 
 -- 'Charts of the first come first, then those found only in the second'
-abbrev pub joinedCharts : List Chart → List Chart → List Chart
-joinedCharts first second = map (joinedChart second) first ++ onlyIn first second
+abbrev pub joined_charts : List Chart → List Chart → List Chart
+joined_charts first second = map (joined_chart second) first ++ only_in first second
 
 -- ---- their tests
 
 -- 'the same setup values in the same order': as many of them too
-unfoldable pub sameValues : List ℕ → List ℕ → Bool
-sameValues [] [] = true
-sameValues [] (y ∷ t) = false
-sameValues (x ∷ s) [] = false
-sameValues (x ∷ s) (y ∷ t) = eqb x y && sameValues s t
+unfoldable pub same_values : List ℕ → List ℕ → Bool
+same_values [] [] = true
+same_values [] (y ∷ t) = false
+same_values (x ∷ s) [] = false
+same_values (x ∷ s) (y ∷ t) = eqb x y && same_values s t
 
 -- '14 setup values differ; 15 joined counts exceed 01's ranges'. A chart that is in one batch alone has passed that batch's tests
-abbrev pub testedWith : {A : Type 0} → Chart → Match → Outcome A → Outcome A
-testedWith c Match.alone rest = rest
-testedWith c (Match.both d) rest =
-    demand (sameValues c.setup d.setup) (number_of refusal.SetupDiffers)
-    (demand (leb (length c.later + length d.later) mostLater) (number_of refusal.JoinedCount)
+abbrev pub tested_with : {A : Type 0} → Chart → Match → Outcome A → Outcome A
+tested_with c Match.alone rest = rest
+tested_with c (Match.both d) rest =
+    demand (same_values c.setup d.setup) (number_of refusal.SetupDiffers)
+    (demand (leb (length c.later + length d.later) most_later) (number_of refusal.JoinedCount)
     rest)
 
 -- 'chart by chart in joined order with 14 before 15': those found only in the second have nothing to be tested
-unfoldable pub testedCharts : {A : Type 0} → List Chart → List Chart → Outcome A → Outcome A
-testedCharts [] second rest = rest
-testedCharts (c ∷ cs) second rest = testedWith c (matchIn second (key_of c)) (testedCharts cs second rest)
+unfoldable pub tested_charts : {A : Type 0} → List Chart → List Chart → Outcome A → Outcome A
+tested_charts [] second rest = rest
+tested_charts (c ∷ cs) second rest = tested_with c (match_in second (key_of c)) (tested_charts cs second rest)

@@ -1,6 +1,6 @@
 // The chart at the front of words that have been tested.
 ghost use Rattle.std.specs.Prelude.{◌≡◌};
-ghost use Rattle.joining.specs.Steps.{ChartThere, chartSize, key_at};
+ghost use Rattle.joining.specs.Steps.{ChartThere, chart_size, key_at};
 
 use chart_section::{ELEMENT, HEAD_WORDS, LATER_COUNT, SETUP_COUNT};
 
@@ -15,7 +15,7 @@ pub fn key(words: &[u32]) -> u32
 // How many words it has.
 pub fn size(words: &[u32]) -> usize
     requires { ChartThere words.now }
-    ensures { result ≡ chartSize words.now }
+    ensures { result ≡ chart_size words.now }
 {
     HEAD_WORDS + wide(words[SETUP_COUNT]) + wide(words[LATER_COUNT])
 }

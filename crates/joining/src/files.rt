@@ -2,12 +2,12 @@
 ghost use Rattle.std.specs.Prelude.{◌≡◌, length};
 ghost use Rattle.refusal.specs.Outcome.Outcome.{given};
 ghost use Rattle.refusal.specs.Numbers.{number_of};
-ghost use Rattle.refusal.specs.Lent.{fitting, lentAfter, length_of, writtenOutcome};
+ghost use Rattle.refusal.specs.Lent.{fitting, lent_after, length_of, written_outcome};
 ghost use Rattle.words.specs.Words.{bytes_of};
-ghost use Rattle.batch.specs.Batches.{batchOf, test_of};
-ghost use Rattle.joining.specs.Joins.{joinedBy, joinedOf};
-ghost use Rattle.joining.specs.Files.{fileOf, asBytes, joinedFile, JoinsFiles};
-ghost use Rattle.joining.specs.Steps.{numberAfter};
+ghost use Rattle.batch.specs.Batches.{batch_of, test_of};
+ghost use Rattle.joining.specs.Joins.{joined_by, joined_of};
+ghost use Rattle.joining.specs.Files.{file_of, as_bytes, joined_file, JoinsFiles};
+ghost use Rattle.joining.specs.Steps.{number_after};
 
 use crate::join;
 use batch::input;
@@ -19,8 +19,8 @@ use words::WORD_BYTES;
 // Joins two files, and writes the joined one to the start of the lent bytes. After a refusal these are as they were. The third
 // promise is that the joined file is read as the joined batch.
 pub fn join_bytes(first: &[u8], second: &[u8], out: &mut [u8]) -> Written
-    ensures answer { writtenOutcome result ≡ length_of (fitting (length out.old) (joinedFile first.now second.now)) }
-    ensures lent { out.new ≡ lentAfter (fitting (length out.old) (joinedFile first.now second.now)) out.old }
+    ensures answer { written_outcome result ≡ length_of (fitting (length out.old) (joined_file first.now second.now)) }
+    ensures lent { out.new ≡ lent_after (fitting (length out.old) (joined_file first.now second.now)) out.old }
     ensures joined { JoinsFiles }
 {
     if !input::is_input(first) {
@@ -33,8 +33,8 @@ pub fn join_bytes(first: &[u8], second: &[u8], out: &mut [u8]) -> Written
 
 // The same, the first batch lent as words.
 fn join_second(first: &[u32], second: &[u8], out: &mut [u8]) -> Written
-    ensures answer { writtenOutcome result ≡ length_of (fitting (length out.old) (asBytes (joinedBy (batchOf first.now) (fileOf second.now)))) }
-    ensures lent { out.new ≡ lentAfter (fitting (length out.old) (asBytes (joinedBy (batchOf first.now) (fileOf second.now)))) out.old }
+    ensures answer { written_outcome result ≡ length_of (fitting (length out.old) (as_bytes (joined_by (batch_of first.now) (file_of second.now)))) }
+    ensures lent { out.new ≡ lent_after (fitting (length out.old) (as_bytes (joined_by (batch_of first.now) (file_of second.now)))) out.old }
 {
     if !input::is_input(second) {
         return Written::Refused(refusal_after(first));
@@ -46,7 +46,7 @@ fn join_second(first: &[u32], second: &[u8], out: &mut [u8]) -> Written
 
 // The refusal where the second file's bytes are no batch's: the first batch's own comes before it.
 fn refusal_after(first: &[u32]) -> Refusal
-    ensures { number_of result ≡ numberAfter (test_of first.now) }
+    ensures { number_of result ≡ number_after (test_of first.now) }
 {
     match batch::test(first) {
         Acceptance::Accepted => Refusal::BatchLength,
@@ -56,8 +56,8 @@ fn refusal_after(first: &[u32]) -> Refusal
 
 // The same, both batches lent as words. The buffer has room for every batch.
 fn join_words(first: &[u32], second: &[u32], out: &mut [u8]) -> Written
-    ensures answer { writtenOutcome result ≡ length_of (fitting (length out.old) (asBytes (joinedOf first.now second.now))) }
-    ensures lent { out.new ≡ lentAfter (fitting (length out.old) (asBytes (joinedOf first.now second.now))) out.old }
+    ensures answer { written_outcome result ≡ length_of (fitting (length out.old) (as_bytes (joined_of first.now second.now))) }
+    ensures lent { out.new ≡ lent_after (fitting (length out.old) (as_bytes (joined_of first.now second.now))) out.old }
 {
     let mut joined = [0u32; MOST_WORDS];
     match join(first, second, &mut joined) {
@@ -68,8 +68,8 @@ fn join_words(first: &[u32], second: &[u32], out: &mut [u8]) -> Written
 
 // Writes the bytes of words to the start of the lent ones, where these are enough.
 fn lend(words: &[u32], out: &mut [u8]) -> Written
-    ensures answer { writtenOutcome result ≡ length_of (fitting (length out.old) (given (bytes_of words.now))) }
-    ensures lent { out.new ≡ lentAfter (fitting (length out.old) (given (bytes_of words.now))) out.old }
+    ensures answer { written_outcome result ≡ length_of (fitting (length out.old) (given (bytes_of words.now))) }
+    ensures lent { out.new ≡ lent_after (fitting (length out.old) (given (bytes_of words.now))) out.old }
 {
     if out.len() < WORD_BYTES * words.len() {
         return Written::Refused(Refusal::OutputLength);

@@ -1,6 +1,6 @@
 // The chart of a key among those of a batch, by where it begins.
-ghost use Rattle.joining.specs.Charts.{matchIn};
-ghost use Rattle.joining.specs.Steps.{HasCharts, chartsIn, FoundSaid};
+ghost use Rattle.joining.specs.Charts.{match_in};
+ghost use Rattle.joining.specs.Steps.{HasCharts, charts_in, FoundSaid};
 
 use crate::chart_at;
 
@@ -13,7 +13,7 @@ pub enum Found {
 // The words are those of a batch whose charts have been tested.
 pub fn find(words: &[u32], key: u32) -> Found
     requires { HasCharts words.now }
-    ensures { FoundSaid result (matchIn (chartsIn words.now) key) words.now }
+    ensures { FoundSaid result (match_in (charts_in words.now) key) words.now }
 {
     let count = chart_at::wide(words[0]);
     let mut at: usize = 1;

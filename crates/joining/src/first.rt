@@ -1,8 +1,8 @@
 // The charts of the first batch, each joined with the second's of its key.
 ghost use Rattle.std.specs.Prelude.{◌≡◌, ◌+◌, ◌≤◌, length};
-ghost use Rattle.chart_section.specs.ChartSection.{mostChart};
-ghost use Rattle.joining.specs.Charts.{matchIn, Match};
-ghost use Rattle.joining.specs.Steps.{HasCharts, chartsIn, ChartThere, chartAt, key_at, ChartSaid, FirstSaid, bufferWords};
+ghost use Rattle.chart_section.specs.ChartSection.{most_chart};
+ghost use Rattle.joining.specs.Charts.{match_in, Match};
+ghost use Rattle.joining.specs.Steps.{HasCharts, charts_in, ChartThere, chart_at, key_at, ChartSaid, FirstSaid, buffer_words};
 
 use crate::finding::Found;
 use crate::{chart_at, finding, putting, same};
@@ -19,8 +19,8 @@ pub enum ChartJoined {
 
 // Joins the chart at the front of the words with that of its key among the second batch's, if there is one.
 fn join_one(words: &[u32], second: &[u32], charts: &mut [u32], at: usize) -> ChartJoined
-    requires { ChartThere words.now × HasCharts second.now × (at + mostChart ≤ length charts.old) }
-    ensures { ChartSaid result (chartAt words.now) (matchIn (chartsIn second.now) (key_at words.now)) charts.old charts.new at }
+    requires { ChartThere words.now × HasCharts second.now × (at + most_chart ≤ length charts.old) }
+    ensures { ChartSaid result (chart_at words.now) (match_in (charts_in second.now) (key_at words.now)) charts.old charts.new at }
 {
     match finding::find(second, chart_at::key(words)) {
         Found::At(place) => join_both(words, &second[place..], charts, at),
@@ -33,8 +33,8 @@ fn join_one(words: &[u32], second: &[u32], charts: &mut [u32], at: usize) -> Cha
 
 // Joins the charts at the front of two runs of words, which have one key: their setup values, 14, then the later ones, 15.
 fn join_both(words: &[u32], other: &[u32], charts: &mut [u32], at: usize) -> ChartJoined
-    requires { ChartThere words.now × ChartThere other.now × (at + mostChart ≤ length charts.old) }
-    ensures { ChartSaid result (chartAt words.now) (Match.both (chartAt other.now)) charts.old charts.new at }
+    requires { ChartThere words.now × ChartThere other.now × (at + most_chart ≤ length charts.old) }
+    ensures { ChartSaid result (chart_at words.now) (Match.both (chart_at other.now)) charts.old charts.new at }
 {
     let middle = HEAD_WORDS + chart_at::wide(words[SETUP_COUNT]);
     let other_middle = HEAD_WORDS + chart_at::wide(other[SETUP_COUNT]);
@@ -58,8 +58,8 @@ pub enum FirstJoined {
 
 // Joins the charts of the first batch in the buffer, one behind another.
 pub fn join_first(first: &[u32], second: &[u32], charts: &mut [u32]) -> FirstJoined
-    requires { HasCharts first.now × HasCharts second.now × (length charts.old ≡ bufferWords) }
-    ensures { FirstSaid result first.now (chartsIn second.now) charts.new }
+    requires { HasCharts first.now × HasCharts second.now × (length charts.old ≡ buffer_words) }
+    ensures { FirstSaid result first.now (charts_in second.now) charts.new }
 {
     let count = chart_at::wide(first[0]);
     let mut at: usize = 1;

@@ -10,8 +10,8 @@ mod second;
 mod writing;
 
 ghost use Rattle.std.specs.Prelude.{◌≡◌, length};
-ghost use Rattle.refusal.specs.Lent.{fitting, lentAfter, length_of, writtenOutcome};
-ghost use Rattle.joining.specs.Joins.{joinedOf};
+ghost use Rattle.refusal.specs.Lent.{fitting, lent_after, length_of, written_outcome};
+ghost use Rattle.joining.specs.Joins.{joined_of};
 ghost use Rattle.joining.specs.Promise.{JoinsTwo};
 ghost use Rattle.joining.specs.Steps.{HasBatch};
 
@@ -23,8 +23,8 @@ use refusal::Written;
 // Joins two batches, and writes the joined batch to the start of the lent slice. After a refusal that is as it was. The third
 // promise says, clause by clause, what the joined batch is to the two.
 pub fn join(first: &[u32], second: &[u32], out: &mut [u32]) -> Written
-    ensures answer { writtenOutcome result ≡ length_of (fitting (length out.old) (joinedOf first.now second.now)) }
-    ensures lent { out.new ≡ lentAfter (fitting (length out.old) (joinedOf first.now second.now)) out.old }
+    ensures answer { written_outcome result ≡ length_of (fitting (length out.old) (joined_of first.now second.now)) }
+    ensures lent { out.new ≡ lent_after (fitting (length out.old) (joined_of first.now second.now)) out.old }
     ensures joined { JoinsTwo }
 {
     if let Acceptance::Refused(why) = batch::test(first) {
@@ -40,8 +40,8 @@ pub fn join(first: &[u32], second: &[u32], out: &mut [u32]) -> Written
 // nothing can be refused any more.
 fn join_tested(first: &[u32], second: &[u32], out: &mut [u32]) -> Written
     requires { HasBatch first.now × HasBatch second.now }
-    ensures answer { writtenOutcome result ≡ length_of (fitting (length out.old) (joinedOf first.now second.now)) }
-    ensures lent { out.new ≡ lentAfter (fitting (length out.old) (joinedOf first.now second.now)) out.old }
+    ensures answer { written_outcome result ≡ length_of (fitting (length out.old) (joined_of first.now second.now)) }
+    ensures lent { out.new ≡ lent_after (fitting (length out.old) (joined_of first.now second.now)) out.old }
 {
     let mut charts = [0u32; MOST_CHARTS * MOST_CHART];
     match first::join_first(first, second, &mut charts) {

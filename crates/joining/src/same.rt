@@ -1,9 +1,9 @@
 // Whether two runs of values are the same, in the same order and as many.
 ghost use Rattle.std.specs.Prelude.{◌≡◌};
-ghost use Rattle.joining.specs.Charts.{sameValues};
+ghost use Rattle.joining.specs.Charts.{same_values};
 
 pub fn same_values(a: &[u32], b: &[u32]) -> bool
-    ensures { result ≡ sameValues a.now b.now }
+    ensures { result ≡ same_values a.now b.now }
 {
     if a.len() != b.len() {
         return false;

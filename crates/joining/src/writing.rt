@@ -1,8 +1,8 @@
 // The joined batch written to the lent slice.
 ghost use Rattle.std.specs.Prelude.{◌≡◌, ◌≤◌, length};
-ghost use Rattle.refusal.specs.Lent.{fitting, lentAfter, length_of, writtenOutcome};
-ghost use Rattle.chart_section.specs.ChartSection.{mostCharts};
-ghost use Rattle.joining.specs.Steps.{SamplesThere, bufferWords, finished};
+ghost use Rattle.refusal.specs.Lent.{fitting, lent_after, length_of, written_outcome};
+ghost use Rattle.chart_section.specs.ChartSection.{most_charts};
+ghost use Rattle.joining.specs.Steps.{SamplesThere, buffer_words, finished};
 
 use batch::MOST_SAMPLES;
 use refusal::{Refusal, Written};
@@ -16,9 +16,9 @@ pub fn write(
     after: &[u32],
     out: &mut [u32],
 ) -> Written
-    requires { SamplesThere before.now × SamplesThere after.now × (count ≤ mostCharts) × (length charts.now ≤ bufferWords) }
-    ensures answer { writtenOutcome result ≡ length_of (fitting (length out.old) (finished count charts.now before.now after.now)) }
-    ensures lent { out.new ≡ lentAfter (fitting (length out.old) (finished count charts.now before.now after.now)) out.old }
+    requires { SamplesThere before.now × SamplesThere after.now × (count ≤ most_charts) × (length charts.now ≤ buffer_words) }
+    ensures answer { written_outcome result ≡ length_of (fitting (length out.old) (finished count charts.now before.now after.now)) }
+    ensures lent { out.new ≡ lent_after (fitting (length out.old) (finished count charts.now before.now after.now)) out.old }
 {
     let samples = before[0] + after[0];
     if samples > MOST_SAMPLES as u32 {

@@ -8,47 +8,47 @@ use Rattle.refusal.specs.declared.Refusal.{Refusal}
 use Rattle.record.specs.declared.Tested.{Tested}
 use Rattle.record.specs.declared.Tested.TheVariants as tested
 use Rattle.record.specs.declared.TestedRecord.{TestedRecord}
-use Rattle.record.specs.Record.{ammonium, sodium, nitrate, chloride, totalNitrogen, organicCarbon}
-use Rattle.record.specs.Tested.{Fields, analyteAt, fieldsIn, testedOutcome, termsOf, acceptedOf}
+use Rattle.record.specs.Record.{ammonium, sodium, nitrate, chloride, total_nitrogen, organic_carbon}
+use Rattle.record.specs.Tested.{Fields, analyte_at, fields_in, tested_outcome, terms_of, accepted_of}
 use Rattle.record.proofs.AcceptedLaws.{accepted-given, valid-accepted, refused-for-all}
 use Rattle.solution.specs.declared.Solution.{Solution}
-use Rattle.solution.specs.Solutions.{sumRangesIn}
-use Rattle.solution.specs.ByValue.{sumRangesBy}
+use Rattle.solution.specs.Solutions.{sum_ranges_in}
+use Rattle.solution.specs.ByValue.{sum_ranges_by}
 use Rattle.solution.specs.Steps.{Bounded}
 use Rattle.solution.proofs.SolutionLaws.{ranges-bounded}
 use Rattle.judge.specs.Judgements.{Four}
-use Rattle.judge.specs.ByValue.{balanceIn, conductivityIn, ratioIn, nitrogenIn, verdictsIn, judgedOf}
-use Rattle.judge.specs.Repeats.{acceptanceOf}
+use Rattle.judge.specs.ByValue.{balance_in, conductivity_in, ratio_in, nitrogen_in, verdicts_in, judged_of}
+use Rattle.judge.specs.Repeats.{acceptance_of}
 
 -- the checks are handed sums that are not large, and their verdicts are those by value
-module _ (f : Fields) (floor : ℕ) {x : Solution} (made : sumRangesIn x ≡ sumRangesBy f floor) where
-  pub handed-bounded : Bounded (sumRangesIn x)
+module _ (f : Fields) (floor : ℕ) {x : Solution} (made : sum_ranges_in x ≡ sum_ranges_by f floor) where
+  pub handed-bounded : Bounded (sum_ranges_in x)
   handed-bounded = rw made (ranges-bounded f floor)
 
   pub verdicts-made : {balance conductivity ratio nitrogen : ℕ}
-      → balance ≡ balanceIn f.kind (analyteAt f.analytes organicCarbon) f.conductivity (sumRangesIn x)
-      → conductivity ≡ conductivityIn f.conductivity (sumRangesIn x)
-      → ratio ≡ ratioIn f.kind (analyteAt f.analytes sodium) (analyteAt f.analytes chloride) (sumRangesIn x)
-      → nitrogen ≡ nitrogenIn (analyteAt f.analytes totalNitrogen) (analyteAt f.analytes nitrate) (analyteAt f.analytes ammonium) (sumRangesIn x)
-      → record { balance = balance; conductivity = conductivity; ratio = ratio; nitrogen = nitrogen } ≡ verdictsIn f (sumRangesBy f floor)
+      → balance ≡ balance_in f.kind (analyte_at f.analytes organic_carbon) f.conductivity (sum_ranges_in x)
+      → conductivity ≡ conductivity_in f.conductivity (sum_ranges_in x)
+      → ratio ≡ ratio_in f.kind (analyte_at f.analytes sodium) (analyte_at f.analytes chloride) (sum_ranges_in x)
+      → nitrogen ≡ nitrogen_in (analyte_at f.analytes total_nitrogen) (analyte_at f.analytes nitrate) (analyte_at f.analytes ammonium) (sum_ranges_in x)
+      → record { balance = balance; conductivity = conductivity; ratio = ratio; nitrogen = nitrogen } ≡ verdicts_in f (sum_ranges_by f floor)
   verdicts-made a b c d = cc
 
 -- the verdicts, or why there are none
 module _ (own : TestedRecord) where
-  pub is-judged : {floor : ℕ} {v : Four} → own.tested ≡ tested.Accepted floor → v ≡ verdictsIn (fieldsIn own) (sumRangesBy (fieldsIn own) floor) → given v ≡ judgedOf (termsOf own)
-  unfolding judgedOf
+  pub is-judged : {floor : ℕ} {v : Four} → own.tested ≡ tested.Accepted floor → v ≡ verdicts_in (fields_in own) (sum_ranges_by (fields_in own) floor) → given v ≡ judged_of (terms_of own)
+  unfolding judged_of
   is-judged e p = rw e (ap (λ (x : Four). given x) p)
 
-  pub is-refused : {why : Refusal} → own.tested ≡ tested.Refused why → refused (number_of why) ≡ judgedOf (termsOf own)
-  unfolding judgedOf
+  pub is-refused : {why : Refusal} → own.tested ≡ tested.Refused why → refused (number_of why) ≡ judged_of (terms_of own)
+  unfolding judged_of
   is-refused e = rw e
 
 -- the record's own tests alone
-module _ (s : List ℕ) {r : Tested} (told : testedOutcome r ≡ acceptedOf s) where
-  pub accepts : {floor : ℕ} → r ≡ tested.Accepted floor → given tt ≡ acceptanceOf s
-  unfolding acceptanceOf
-  accepts {floor} e = sym (valid-accepted s (given tt) (accepted-given s _ floor (sym told ∙ ap testedOutcome e)).0)
+module _ (s : List ℕ) {r : Tested} (told : tested_outcome r ≡ accepted_of s) where
+  pub accepts : {floor : ℕ} → r ≡ tested.Accepted floor → given tt ≡ acceptance_of s
+  unfolding acceptance_of
+  accepts {floor} e = sym (valid-accepted s (given tt) (accepted-given s _ floor (sym told ∙ ap tested_outcome e)).0)
 
-  pub refuses : {why : Refusal} → r ≡ tested.Refused why → refused (number_of why) ≡ acceptanceOf s
-  unfolding acceptanceOf
-  refuses {why} e = sym (refused-for-all s _ (number_of why) (sym told ∙ ap testedOutcome e) (given tt))
+  pub refuses : {why : Refusal} → r ≡ tested.Refused why → refused (number_of why) ≡ acceptance_of s
+  unfolding acceptance_of
+  refuses {why} e = sym (refused-for-all s _ (number_of why) (sym told ∙ ap tested_outcome e) (given tt))

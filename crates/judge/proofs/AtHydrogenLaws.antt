@@ -5,12 +5,12 @@ use Prim.Native.Nat.{ℕ, ◌+◌, ◌*◌, ◌≤◌, ◌<◌}
 use native.Mathlib.Nat.{mul-pos, mul-le-mul_left, add-zero, le_refl}
 use native.Mathlib.Omega.{arith}
 use lib.IntN.{ℤ, pos, sub_ℕ}
-use Rattle.hydrogen.specs.Floors.{is_whole, floorAt}
+use Rattle.hydrogen.specs.Floors.{is_whole, floor_at}
 use Rattle.hydrogen.specs.TrueHydrogen.{HAtMost, HAtLeast, Ordered, HydrogenAt}
 use Rattle.solution.specs.Solutions.{gap}
 use Rattle.judge.specs.Choices.{Ranges, Choice, Values}
 use Rattle.judge.specs.AtHydrogen.{AtH}
-use Rattle.judge.specs.Corners.{part_of, part_at, Check, factor, factorDivisor, bracket_of, leastFirst, mostFirst, passesOf}
+use Rattle.judge.specs.Corners.{part_of, part_at, Check, factor, factor_divisor, bracket_of, least_first, most_first, passes_of}
 use Rattle.judge.proofs.Mixing.{Proper}
 use Rattle.judge.proofs.FactorLaws.{counting, unit-some, divisor-some, factor-over, factor-under, factor-some}
 use Rattle.judge.proofs.Deciding.{Decided, deciding}
@@ -26,10 +26,10 @@ pub record Located (p h : ℕ) (b : Bool) : Type 0 where
   pub above : b ≡ false → HAtMost p (pos h) 1 → ⊥
   pub below : b ≡ false → HAtLeast p (pos (h + gap b)) 1 → ⊥
 
-pub located : (p : ℕ) → HydrogenAt p → (b : Bool) → is_whole p ≡ b → Located p (floorAt p) b
+pub located : (p : ℕ) → HydrogenAt p → (b : Bool) → is_whole p ≡ b → Located p (floor_at p) b
 located p w true e =
     let i = w.placed.whole e in
-    record { low = i.0; high = rw (add-zero (floorAt p)) i.1; above = λ z. absurd (true≢false z); below = λ z. absurd (true≢false z) }
+    record { low = i.0; high = rw (add-zero (floor_at p)) i.1; above = λ z. absurd (true≢false z); below = λ z. absurd (true≢false z) }
 located p w false e =
     let i = w.placed.above (λ t. true≢false (sym t ∙ e)) in
     record { low = i.0; high = w.placed.below.0; above = λ z. i.1; below = λ z. w.placed.below.1 }
@@ -90,17 +90,17 @@ module _ (k : Check) (sound : Sound k) (hydrogen : 0 < k.hydrogen) (r : Ranges) 
   F = factor k.corrected c
 
   abbrev G : ℕ
-  G = factorDivisor k.corrected c
+  G = factor_divisor k.corrected c
 
   -- the corners of them
   abbrev u : ℕ
   u = (bracket_of k.corrected r).unit
 
   abbrev x₀ : ℕ
-  x₀ = (bracket_of k.corrected r).least * leastFirst k r
+  x₀ = (bracket_of k.corrected r).least * least_first k r
 
   abbrev x₁ : ℕ
-  x₁ = (bracket_of k.corrected r).most * mostFirst k r
+  x₁ = (bracket_of k.corrected r).most * most_first k r
 
   abbrev y₀ : ℕ
   y₀ = u * part_at k.second r.least
@@ -168,5 +168,5 @@ module _ (k : Check) (sound : Sound k) (hydrogen : 0 < k.hydrogen) (r : Ranges) 
           outside = λ e. absurd (omega arith);
         }
 
-    pub passes-tells : Tells (AtH p (bounds_of k c)) (passesOf k r)
+    pub passes-tells : Tells (AtH p (bounds_of k c)) (passes_of k r)
     passes-tells = rw (counting q r.whole hydrogen) (tells (deciding k.window r.whole x₀ x₁ y₀ y₁))

@@ -8,7 +8,7 @@ use Rattle.hydrogen.specs.TrueHydrogen.{FractionLe}
 use Rattle.hydrogen.proofs.Laws.{at-most-bound, at-least-bound}
 use Rattle.judge.specs.Choices.{Choice}
 use Rattle.judge.specs.AtHydrogen.{Bounds, AtFraction}
-use Rattle.judge.specs.Corners.{part_of, Check, factor, factorDivisor, Passes}
+use Rattle.judge.specs.Corners.{part_of, Check, factor, factor_divisor, Passes}
 
 -- sums q n + X and Y, d times, the first multiplied by F / G, in a test with factors f and g: the fraction n / d against the bound
 -- (g G Y − f F X) / (f F q d); and the same of a whole number n
@@ -35,20 +35,20 @@ abbrev pub bounds_of : Check → Choice → Bounds
 bounds_of k c =
     record {
       most =
-          sub_ℕ (k.window.high.numerator * (factorDivisor k.corrected c * part_of k.second c))
+          sub_ℕ (k.window.high.numerator * (factor_divisor k.corrected c * part_of k.second c))
           (k.window.high.denominator * (factor k.corrected c * part_of k.first c));
-      mostPer = k.window.high.denominator * (factor k.corrected c * k.hydrogen) * c.divisor;
+      most_per = k.window.high.denominator * (factor k.corrected c * k.hydrogen) * c.divisor;
       least =
-          sub_ℕ (k.window.low.numerator * (factorDivisor k.corrected c * part_of k.second c))
+          sub_ℕ (k.window.low.numerator * (factor_divisor k.corrected c * part_of k.second c))
           (k.window.low.denominator * (factor k.corrected c * part_of k.first c));
-      leastPer = k.window.low.denominator * (factor k.corrected c * k.hydrogen) * c.divisor;
+      least_per = k.window.low.denominator * (factor k.corrected c * k.hydrogen) * c.divisor;
     }
 
 -- a check at a choice is that its hydrogen keeps the bounds
 pub passes-bounds : (k : Check) (c : Choice) → 0 < c.divisor → Passes k c ↔ AtFraction c.hydrogen c.divisor (bounds_of k c)
 passes-bounds k c divides =
     let F : ℕ = factor k.corrected c in
-    let G : ℕ = factorDivisor k.corrected c in
+    let G : ℕ = factor_divisor k.corrected c in
     let X : ℕ = part_of k.first c in
     let Y : ℕ = part_of k.second c in
     let most = most-bound c.divisor divides k.hydrogen X Y F G k.window.high.denominator k.window.high.numerator c.hydrogen in

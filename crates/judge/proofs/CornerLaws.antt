@@ -10,7 +10,7 @@ use Rattle.solution.specs.Solutions.{gap}
 use Rattle.judge.specs.Choices.{Bracket, InBracket, Ranges, Choice, Among}
 use Rattle.judge.specs.Verdicts.{Judged}
 use Rattle.judge.specs.Verdicts.Judged.{every, none, mixed}
-use Rattle.judge.specs.Corners.{part_of, part_at, Check, first_of, factor, factorDivisor, bracket_of, endsReached, leastFirst, mostFirst, Passes, passesOf}
+use Rattle.judge.specs.Corners.{part_of, part_at, Check, first_of, factor, factor_divisor, bracket_of, ends_reached, least_first, most_first, Passes, passes_of}
 use Rattle.judge.proofs.Crossing.{Crossing, crossing, on_line}
 use Rattle.judge.proofs.Mixing.{hydrogen-low, hydrogen-high, mix, mixed-among, at, lowest, highest, Proper, correction-mix, correction-least, correction-most, low-among, high-among}
 use Rattle.judge.proofs.FactorLaws.{counts, added, unit-some, least-some, divisor-some, factor-over, factor-under, factor-least, factor-most, divisor-unit, factor-mix}
@@ -27,7 +27,7 @@ pub record Sound (k : Check) : Type 0 where
 
 module _ (k : Check) (o : Sound k) (r : Ranges) (w : Proper r) where
   abbrev b : Bool
-  b = endsReached k r
+  b = ends_reached k r
 
   abbrev q : ℕ
   q = k.hydrogen
@@ -36,10 +36,10 @@ module _ (k : Check) (o : Sound k) (r : Ranges) (w : Proper r) where
   t = r.correction
 
   abbrev x₀ : ℕ
-  x₀ = leastFirst k r
+  x₀ = least_first k r
 
   abbrev x₁ : ℕ
-  x₁ = mostFirst k r
+  x₁ = most_first k r
 
   abbrev y₀ : ℕ
   y₀ = part_at k.second r.least
@@ -81,7 +81,7 @@ module _ (k : Check) (o : Sound k) (r : Ranges) (w : Proper r) where
   F c = factor k.corrected c
 
   abbrev G : Choice → ℕ
-  G c = factorDivisor k.corrected c
+  G c = factor_divisor k.corrected c
 
   some : 0 < u
   some = unit-some r w k.corrected
@@ -270,7 +270,7 @@ module _ (k : Check) (o : Sound k) (r : Ranges) (w : Proper r) where
         low = unscaled u s' l' (G c * Y c) (F c * X c) some (all-low s' l' (sums c a) h');
       })
 
-  pub passes-judged : Judged Choice (Among r) (Passes k) (passesOf k r)
+  pub passes-judged : Judged Choice (Among r) (Passes k) (passes_of k r)
   passes-judged = judged (deciding k.window b (f₀ * x₀) (f₁ * x₁) (u * y₀) (u * y₁))
 
   -- there is a choice, so no other verdict is true of every choice

@@ -7,17 +7,17 @@ use lib.Dec.{lit≤}
 use Rattle.activity.specs.declared.Correction.{Correction}
 use Rattle.activity.specs.declared.Correction.TheVariants.{Between, TooStrong}
 use Rattle.activity.specs.Strength.{strongest}
-use Rattle.activity.specs.Brackets.{unit, correctionOf}
+use Rattle.activity.specs.Brackets.{unit, correction_of}
 use Rattle.activity.proofs.Laws.{bracket-given, lower-positive, ends-ordered, lower-most, upper-most}
-use Rattle.solution.specs.Ions.{cationFactor, anionFactor, chargeNumber, sum}
+use Rattle.solution.specs.Ions.{cation_factor, anion_factor, charge_number, sum}
 use Rattle.solution.specs.Solutions.{SumRanges}
-use Rattle.solution.specs.Steps.{mostSums, Bounded}
-use Rattle.judge.specs.Ranges.{correctionIn}
-use Rattle.judge.specs.Steps.{toOdd}
+use Rattle.solution.specs.Steps.{most_sums, Bounded}
+use Rattle.judge.specs.Ranges.{correction_in}
+use Rattle.judge.specs.Steps.{to_odd}
 
 -- the strongest record is not too strong
-most-weak : mostSums.strength ≤ strongest
-unfolding sum cationFactor anionFactor chargeNumber
+most-weak : most_sums.strength ≤ strongest
+unfolding sum cation_factor anion_factor charge_number
 most-weak = lit≤ tt
 
 module _ (x : SumRanges) (b : Bounded x) where
@@ -27,39 +27,39 @@ module _ (x : SumRanges) (b : Bounded x) where
   pub weaker : x.least.strength ≤ strongest
   weaker = le_trans b.ordered.strength weak
 
-  correction-given : correctionOf x.least.strength x.most.strength ≡ Between (correctionIn x).least (correctionIn x).most
+  correction-given : correction_of x.least.strength x.most.strength ≡ Between (correction_in x).least (correction_in x).most
   correction-given = bracket-given x.least.strength x.most.strength weaker weak
 
-  pub correction-some : 0 < (correctionIn x).least
+  pub correction-some : 0 < (correction_in x).least
   correction-some = lower-positive x.most.strength weak
 
-  pub correction-ordered : (correctionIn x).least ≤ (correctionIn x).most
+  pub correction-ordered : (correction_in x).least ≤ (correction_in x).most
   correction-ordered = ends-ordered x.least.strength x.most.strength b.ordered.strength weak
 
-  pub correction-least : (correctionIn x).least ≤ unit + 1
+  pub correction-least : (correction_in x).least ≤ unit + 1
   correction-least = lower-most x.most.strength
 
-  pub correction-most : (correctionIn x).most ≤ unit + 1
+  pub correction-most : (correction_in x).most ≤ unit + 1
   correction-most = upper-most x.least.strength
 
 -- ---- as the code is handed it: an answer that is a bracket is this one, and there is no other answer
-module _ (x : SumRanges) (b : Bounded x) {given : Correction} (is : given ≡ correctionOf x.least.strength x.most.strength) where
+module _ (x : SumRanges) (b : Bounded x) {given : Correction} (is : given ≡ correction_of x.least.strength x.most.strength) where
   pub not-strong : given ≡ TooStrong → ⊥
   not-strong e = let z : ◌≡◌ {A = ℕ} 0 1 = cc (correction-given x b) in absurd (omega arith)
 
   module _ {least most : ℕ} (e : given ≡ Between least most) where
-    least-is : least ≡ (correctionIn x).least
+    least-is : least ≡ (correction_in x).least
     least-is = cc (correction-given x b)
 
-    most-is : most ≡ (correctionIn x).most
+    most-is : most ≡ (correction_in x).most
     most-is = cc (correction-given x b)
 
     pub ends-small : (least ≤ unit + 1) × (most ≤ unit + 1)
     ends-small = (rw least-is (correction-least x b), rw most-is (correction-most x b))
 
     -- what was made by one of its ends
-    pub least-made : {n : ℕ} → n ≡ toOdd (least * x.least.calculated) → n ≡ toOdd ((correctionIn x).least * x.least.calculated)
+    pub least-made : {n : ℕ} → n ≡ to_odd (least * x.least.calculated) → n ≡ to_odd ((correction_in x).least * x.least.calculated)
     least-made e = rw least-is at e
 
-    pub most-made : {n : ℕ} → n ≡ toOdd (most * x.most.calculated) → n ≡ toOdd ((correctionIn x).most * x.most.calculated)
+    pub most-made : {n : ℕ} → n ≡ to_odd (most * x.most.calculated) → n ≡ to_odd ((correction_in x).most * x.most.calculated)
     most-made e = rw most-is at e

@@ -9,7 +9,7 @@ use lib.Dec.{eqb}
 use borrow.Author.Tests.{eqb-true, eqb-false}
 use Rattle.solution.specs.Solutions.{gap}
 use Rattle.judge.specs.Choices.{Ranges, Choice, Values}
-use Rattle.judge.specs.Corners.{factor, factorDivisor, bracket_of}
+use Rattle.judge.specs.Corners.{factor, factor_divisor, bracket_of}
 use Rattle.judge.proofs.Mixing.{Proper}
 
 -- where the ends are not reached, hydrogen plays a part
@@ -47,15 +47,15 @@ module _ (r : Ranges) (w : Proper r) where
 
 -- the factor of a choice is in its bracket
 module _ (r : Ranges) (c : Choice) (a : Values r c) where
-  pub divisor-some : (b : Bool) → 0 < factorDivisor b c
+  pub divisor-some : (b : Bool) → 0 < factor_divisor b c
   divisor-some true = a.correction.divides
   divisor-some false = omega arith
 
-  pub factor-over : (b : Bool) → (bracket_of b r).least * factorDivisor b c ≤ (bracket_of b r).unit * factor b c
+  pub factor-over : (b : Bool) → (bracket_of b r).least * factor_divisor b c ≤ (bracket_of b r).unit * factor b c
   factor-over true = a.correction.over
   factor-over false = le_refl _
 
-  pub factor-under : (b : Bool) → (bracket_of b r).unit * factor b c ≤ (bracket_of b r).most * factorDivisor b c
+  pub factor-under : (b : Bool) → (bracket_of b r).unit * factor b c ≤ (bracket_of b r).most * factor_divisor b c
   factor-under true = a.correction.under
   factor-under false = le_refl _
 
@@ -73,12 +73,12 @@ module _ (r : Ranges) (c : Choice) where
   factor-most true e = e
   factor-most false e = refl
 
-  pub divisor-unit : (b : Bool) → c.correctionDivisor ≡ r.correction.unit → factorDivisor b c ≡ (bracket_of b r).unit
+  pub divisor-unit : (b : Bool) → c.correction_divisor ≡ r.correction.unit → factor_divisor b c ≡ (bracket_of b r).unit
   divisor-unit true e = e
   divisor-unit false e = refl
 
   pub factor-mix : (b : Bool) (m n : ℕ)
-      → c.correction ≡ r.correction.least * m + r.correction.most * n → c.correctionDivisor ≡ r.correction.unit * (m + n)
-      → factor b c * ((bracket_of b r).unit * (m + n)) ≡ factorDivisor b c * ((bracket_of b r).least * m + (bracket_of b r).most * n)
+      → c.correction ≡ r.correction.least * m + r.correction.most * n → c.correction_divisor ≡ r.correction.unit * (m + n)
+      → factor b c * ((bracket_of b r).unit * (m + n)) ≡ factor_divisor b c * ((bracket_of b r).least * m + (bracket_of b r).most * n)
   factor-mix true m n e f = rw (e, f) (mul_comm _ _)
   factor-mix false m n e f = omega arith

@@ -10,21 +10,21 @@ use Rattle.refusal.specs.Outcome.Outcome.{given}
 use Rattle.reading.specs.declared.Reading.TheVariants.{Measured, Below}
 use Rattle.reading.specs.declared.Analyte.{Analyte}
 use Rattle.reading.specs.Ranges.{in_range}
-use Rattle.reading.specs.Readings.{missingFrom, measuredFrom, belowFrom, reading_of}
-use Rattle.reading.specs.Amounts.{nearest, valueMass, valueAmount}
-use Rattle.reading.specs.Analytes.{massOf, analyteOf, range_of}
+use Rattle.reading.specs.Readings.{missing_from, measured_from, below_from, reading_of}
+use Rattle.reading.specs.Amounts.{nearest, value_mass, value_amount}
+use Rattle.reading.specs.Analytes.{mass_of, analyte_of, range_of}
 use Rattle.reading.specs.Finer.{Finer}
 use Rattle.reading.proofs.FinerProofs.{finer-laws}
-use Rattle.record.specs.Record.{ammonium, sodium, nitrate, chloride, totalNitrogen, organicCarbon, sampleNumber, kind_of, readAt, readingAt, all_below, accepted, acceptedRest}
+use Rattle.record.specs.Record.{ammonium, sodium, nitrate, chloride, total_nitrogen, organic_carbon, sample_number, kind_of, read_at, reading_at, all_below, accepted, accepted_rest}
 use Rattle.record.proofs.AcceptedLaws.{accepted-given}
-use Rattle.solution.specs.Ions.{cationFactor, anionFactor}
-use Rattle.solution.specs.Solutions.{sumRangesOf}
+use Rattle.solution.specs.Ions.{cation_factor, anion_factor}
+use Rattle.solution.specs.Solutions.{sum_ranges_of}
 use Rattle.judge.specs.Verdicts.{applied}
 use Rattle.judge.specs.Corners.{decided}
-use Rattle.judge.specs.Ratios.{sodiumChlorideOf, ratioAppliesTo, ratioKnown, nitrogenOf, nitrogenAppliesTo, nitrogenKnown}
-use Rattle.judge.specs.Judgements.{Four, verdictsOf}
-use Rattle.judge.specs.ByValue.{ratioIn, nitrogenIn}
-use Rattle.judge.specs.Repeats.{acceptanceOf}
+use Rattle.judge.specs.Ratios.{sodium_chloride_of, ratio_applies_to, ratio_known, nitrogen_of, nitrogen_applies_to, nitrogen_known}
+use Rattle.judge.specs.Judgements.{Four, verdicts_of}
+use Rattle.judge.specs.ByValue.{ratio_in, nitrogen_in}
+use Rattle.judge.specs.Repeats.{acceptance_of}
 use Rattle.judge.specs.Finer.{ChlorideHasZero, Becomes, Changes}
 use Rattle.judge.proofs.RereadLaws.{reread, reread-finer}
 use Rattle.judge.proofs.HandedLaws.{ratio-corners, nitrogen-corners}
@@ -47,58 +47,58 @@ rain mark bits =
     ∷ 1 ∷ 0 ∷ 1 ∷ half ∷ 2 ∷ one ∷ 2 ∷ one ∷ 0 ∷ 0 ∷ []
 
 has-zero : (mark bits : ℕ) → ChlorideHasZero (rain mark bits)
-unfolding readAt readingAt reading_of belowFrom in_range of_bits massOf valueAmount valueMass nearest range_of
+unfolding read_at reading_at reading_of below_from in_range of_bits mass_of value_amount value_mass nearest range_of
 has-zero mark bits = (refl, (lit≤ tt, lit≤ tt))
 
 -- ---- reading i of a record, read anew: one of the verdicts before and after, by sums that can be computed. Hydrogen has no part in them
 abbrev Accepted : List ℕ → Type 0
-Accepted s = acceptanceOf s ≡ given tt
+Accepted s = acceptance_of s ≡ given tt
 
-module _ (verdict : Four → ℕ) (bySums : List ℕ → ℕ) (same : (s : List ℕ) → verdict (verdictsOf s) ≡ bySums s) (i : ℕ) (l : i < organicCarbon) where
+module _ (verdict : Four → ℕ) (by_sums : List ℕ → ℕ) (same : (s : List ℕ) → verdict (verdicts_of s) ≡ by_sums s) (i : ℕ) (l : i < organic_carbon) where
   becomes : (m n : ℕ) (s : List ℕ) (mark bits : ℕ) → Accepted s → Accepted (reread s i mark bits)
-      → Finer (readingAt s i) (readingAt (reread s i mark bits) i) → bySums s ≡ m → bySums (reread s i mark bits) ≡ n → Becomes verdict m n
-  unfolding acceptanceOf
+      → Finer (reading_at s i) (reading_at (reread s i mark bits) i) → by_sums s ≡ m → by_sums (reread s i mark bits) ≡ n → Becomes verdict m n
+  unfolding acceptance_of
   becomes m n s mark bits a b f was is =
       let new : List ℕ = reread s i mark bits in
       record {
         old = s;
         new = new;
         finer = reread-finer s i mark bits l f;
-        verdicts = verdictsOf s;
-        verdictsFiner = verdictsOf new;
+        verdicts = verdicts_of s;
+        verdicts_finer = verdicts_of new;
         judged = judged s (accepted-given s (given tt) tt a).0;
-        judgedFiner = judged new (accepted-given new (given tt) tt b).0;
+        judged_finer = judged new (accepted-given new (given tt) tt b).0;
         was = same s ∙ was;
         is = same new ∙ is;
       }
 
 abbrev at : List ℕ → ℕ → Analyte
-at s i = analyteOf (readingAt s i)
+at s i = analyte_of (reading_at s i)
 
-abbrev ratioBySums : List ℕ → ℕ
-ratioBySums s = ratioIn (kind_of s) (at s sodium) (at s chloride) (sumRangesOf s)
+abbrev ratio_by_sums : List ℕ → ℕ
+ratio_by_sums s = ratio_in (kind_of s) (at s sodium) (at s chloride) (sum_ranges_of s)
 
-ratio-by-sums : (s : List ℕ) → sodiumChlorideOf s ≡ ratioBySums s
-unfolding ratioIn
-ratio-by-sums s = ap (applied (ratioAppliesTo s) (ratioKnown s)) (sym (ratio-corners s))
+ratio-by-sums : (s : List ℕ) → sodium_chloride_of s ≡ ratio_by_sums s
+unfolding ratio_in
+ratio-by-sums s = ap (applied (ratio_applies_to s) (ratio_known s)) (sym (ratio-corners s))
 
 ratio-becomes : (n : ℕ) (s : List ℕ) (mark bits : ℕ) → Accepted s → Accepted (reread s chloride mark bits)
-    → Finer (readingAt s chloride) (readingAt (reread s chloride mark bits) chloride) → ratioBySums s ≡ 0 → ratioBySums (reread s chloride mark bits) ≡ n
+    → Finer (reading_at s chloride) (reading_at (reread s chloride mark bits) chloride) → ratio_by_sums s ≡ 0 → ratio_by_sums (reread s chloride mark bits) ≡ n
     → ChlorideHasZero s → (b : Becomes (λ v. v.ratio) 0 n) × ChlorideHasZero b.old
 unfolding becomes
-ratio-becomes n s mark bits a b f was is has = (becomes (λ v. v.ratio) ratioBySums ratio-by-sums chloride (omega arith) 0 n s mark bits a b f was is, has)
+ratio-becomes n s mark bits a b f was is has = (becomes (λ v. v.ratio) ratio_by_sums ratio-by-sums chloride (omega arith) 0 n s mark bits a b f was is, has)
 
-abbrev nitrogenBySums : List ℕ → ℕ
-nitrogenBySums s = nitrogenIn (at s totalNitrogen) (at s nitrate) (at s ammonium) (sumRangesOf s)
+abbrev nitrogen_by_sums : List ℕ → ℕ
+nitrogen_by_sums s = nitrogen_in (at s total_nitrogen) (at s nitrate) (at s ammonium) (sum_ranges_of s)
 
-nitrogen-by-sums : (s : List ℕ) → nitrogenOf s ≡ nitrogenBySums s
-unfolding nitrogenIn
-nitrogen-by-sums s = ap (applied (nitrogenAppliesTo s) (nitrogenKnown s)) (sym (nitrogen-corners s))
+nitrogen-by-sums : (s : List ℕ) → nitrogen_of s ≡ nitrogen_by_sums s
+unfolding nitrogen_in
+nitrogen-by-sums s = ap (applied (nitrogen_applies_to s) (nitrogen_known s)) (sym (nitrogen-corners s))
 
-nitrogen-becomes : (n : ℕ) (s : List ℕ) (mark bits : ℕ) → Accepted s → Accepted (reread s totalNitrogen mark bits)
-    → Finer (readingAt s totalNitrogen) (readingAt (reread s totalNitrogen mark bits) totalNitrogen)
-    → nitrogenBySums s ≡ 3 → nitrogenBySums (reread s totalNitrogen mark bits) ≡ n → Becomes (λ v. v.nitrogen) 3 n
-nitrogen-becomes = becomes (λ v. v.nitrogen) nitrogenBySums nitrogen-by-sums totalNitrogen (omega arith) 3
+nitrogen-becomes : (n : ℕ) (s : List ℕ) (mark bits : ℕ) → Accepted s → Accepted (reread s total_nitrogen mark bits)
+    → Finer (reading_at s total_nitrogen) (reading_at (reread s total_nitrogen mark bits) total_nitrogen)
+    → nitrogen_by_sums s ≡ 3 → nitrogen_by_sums (reread s total_nitrogen mark bits) ≡ n → Becomes (λ v. v.nitrogen) 3 n
+nitrogen-becomes = becomes (λ v. v.nitrogen) nitrogen_by_sums nitrogen-by-sums total_nitrogen (omega arith) 3
 
 -- ---- a reading below 1 mg/L, read anew: with a lower limit of 0.5 mg/L; measured as 1 mg/L, the limit itself, and as 0.25
 lower : Finer (Below (of_bits binary32 one)) (Below (of_bits binary32 half))
@@ -115,7 +115,7 @@ under-limit = finer-laws.at-most-limit (of_bits binary32 one) (of_bits binary32 
 
 -- ---- the changes
 pub changes : Changes
-unfolding acceptanceOf accepted acceptedRest sampleNumber all_below readAt readingAt reading_of missingFrom measuredFrom belowFrom in_range of_bits massOf valueAmount valueMass nearest range_of cationFactor anionFactor decided ratioIn nitrogenIn
+unfolding acceptance_of accepted accepted_rest sample_number all_below read_at reading_at reading_of missing_from measured_from below_from in_range of_bits mass_of value_amount value_mass nearest range_of cation_factor anion_factor decided ratio_in nitrogen_in
 changes =
     record {
       ratio = λ n l. ratio n (omega (arith, l));

@@ -6,16 +6,16 @@ use Prim.Native.Nat.{ℕ, ◌*◌}
 use native.Mathlib.Omega.{arith}
 use lib.Dec.{lit<}
 use Rattle.activity.specs.Brackets.{unit}
-use Rattle.record.specs.Record.{sodium, chloride, totalNitrogen, conductivityOf, alkalinityOf}
-use Rattle.solution.specs.Ions.{cationCharge, anionCharge}
-use Rattle.solution.specs.Solutions.{SumRanges, sumRangesOf, leastAt, greatestAt, measuredOf}
+use Rattle.record.specs.Record.{sodium, chloride, total_nitrogen, conductivity_of, alkalinity_of}
+use Rattle.solution.specs.Ions.{cation_charge, anion_charge}
+use Rattle.solution.specs.Solutions.{SumRanges, sum_ranges_of, least_at, greatest_at, measured_of}
 use Rattle.judge.specs.declared.window.Window.{Window}
-use Rattle.judge.specs.Corners.{decided, passesOf}
-use Rattle.judge.specs.Ranges.{correctionIn, correctionWith, rangesOf}
-use Rattle.judge.specs.IonBalance.{balanceLimit, balanceWindow, balanceCheck}
-use Rattle.judge.specs.Conductivity.{conductivityLimit, conductivityWindow, conductivityCheck}
-use Rattle.judge.specs.Ratios.{sodiumChlorideWindow, sodiumChlorideCheck, nitrogenWindow, nitrogenCheck}
-use Rattle.judge.specs.ByValue.{correctedBy}
+use Rattle.judge.specs.Corners.{decided, passes_of}
+use Rattle.judge.specs.Ranges.{correction_in, correction_with, ranges_of}
+use Rattle.judge.specs.IonBalance.{balance_limit, balance_window, balance_check}
+use Rattle.judge.specs.Conductivity.{conductivity_limit, conductivity_window, conductivity_check}
+use Rattle.judge.specs.Ratios.{sodium_chloride_window, sodium_chloride_check, nitrogen_window, nitrogen_check}
+use Rattle.judge.specs.ByValue.{corrected_by}
 use Rattle.judge.proofs.PartLaws.{no-weight}
 use Rattle.judge.proofs.RatioLaws.{only_sum, mineral-only}
 
@@ -25,35 +25,35 @@ same-corners w reached a b c d = λ i. decided w reached (a i) (b i) (c i) (d i)
 
 module _ (s : List ℕ) where
   abbrev x : SumRanges
-  x = sumRangesOf s
+  x = sum_ranges_of s
 
   pub balance-corners :
-      decided (balanceWindow (balanceLimit (conductivityOf s))) x.whole x.least.cations x.most.cations x.least.anions x.most.anions
-      ≡ passesOf (balanceCheck (balanceLimit (conductivityOf s)) (alkalinityOf s)) (rangesOf s)
+      decided (balance_window (balance_limit (conductivity_of s))) x.whole x.least.cations x.most.cations x.least.anions x.most.anions
+      ≡ passes_of (balance_check (balance_limit (conductivity_of s)) (alkalinity_of s)) (ranges_of s)
   balance-corners = same-corners _ _ (omega arith) (omega arith) (omega arith) (omega arith)
 
   pub conductivity-corners :
-      correctedBy (correctionIn x) (conductivityWindow (conductivityLimit (conductivityOf s))) x
-      ≡ passesOf (conductivityCheck (conductivityLimit (conductivityOf s)) (alkalinityOf s) (measuredOf (conductivityOf s))) (rangesOf s)
-  unfolding correctionWith
+      corrected_by (correction_in x) (conductivity_window (conductivity_limit (conductivity_of s))) x
+      ≡ passes_of (conductivity_check (conductivity_limit (conductivity_of s)) (alkalinity_of s) (measured_of (conductivity_of s))) (ranges_of s)
+  unfolding correction_with
   conductivity-corners =
-      same-corners _ _ (cc) (cc) (ap (λ (n : ℕ). unit * n) (omega (arith, no-weight (leastAt s)))) (ap (λ (n : ℕ). unit * n) (omega (arith, no-weight (greatestAt s))))
+      same-corners _ _ (cc) (cc) (ap (λ (n : ℕ). unit * n) (omega (arith, no-weight (least_at s)))) (ap (λ (n : ℕ). unit * n) (omega (arith, no-weight (greatest_at s))))
 
   pub ratio-corners :
-      decided sodiumChlorideWindow true x.least.sodium x.most.sodium x.least.chloride x.most.chloride
-      ≡ passesOf sodiumChlorideCheck (rangesOf s)
+      decided sodium_chloride_window true x.least.sodium x.most.sodium x.least.chloride x.most.chloride
+      ≡ passes_of sodium_chloride_check (ranges_of s)
   ratio-corners =
-      let na = only_sum sodium (cationCharge sodium) in
-      let cl = only_sum chloride (anionCharge chloride) in
+      let na = only_sum sodium (cation_charge sodium) in
+      let cl = only_sum chloride (anion_charge chloride) in
       same-corners _ _
-      (omega (arith, na (leastAt s) (lit< tt))) (omega (arith, na (greatestAt s) (lit< tt)))
-      (omega (arith, cl (leastAt s) (lit< tt))) (omega (arith, cl (greatestAt s) (lit< tt)))
+      (omega (arith, na (least_at s) (lit< tt))) (omega (arith, na (greatest_at s) (lit< tt)))
+      (omega (arith, cl (least_at s) (lit< tt))) (omega (arith, cl (greatest_at s) (lit< tt)))
 
   pub nitrogen-corners :
-      decided nitrogenWindow true x.least.mineral x.most.mineral x.least.total x.most.total
-      ≡ passesOf nitrogenCheck (rangesOf s)
+      decided nitrogen_window true x.least.mineral x.most.mineral x.least.total x.most.total
+      ≡ passes_of nitrogen_check (ranges_of s)
   nitrogen-corners =
-      let total = only_sum totalNitrogen 1 in
+      let total = only_sum total_nitrogen 1 in
       same-corners _ _
-      (omega (arith, mineral-only (leastAt s))) (omega (arith, mineral-only (greatestAt s)))
-      (omega (arith, total (leastAt s) (lit< tt))) (omega (arith, total (greatestAt s) (lit< tt)))
+      (omega (arith, mineral-only (least_at s))) (omega (arith, mineral-only (greatest_at s)))
+      (omega (arith, total (least_at s) (lit< tt))) (omega (arith, total (greatest_at s) (lit< tt)))

@@ -29,7 +29,7 @@ mix x z m n =
       amount = λ i. x.amount i * m + z.amount i * n;
       hydrogen = x.hydrogen * m + z.hydrogen * n;
       correction = x.correction;
-      correctionDivisor = x.correctionDivisor;
+      correction_divisor = x.correction_divisor;
     }
 
 -- what is over l d + e at both is over it in the mixture
@@ -46,7 +46,7 @@ module _ (r : Ranges) (x z : Choice) (same : z.divisor ≡ x.divisor) (a : Among
       let h : ℕ = r.floor in
       let e : ℕ = gap r.whole in
       let z' : Choice =
-      record { divisor = d; amount = z.amount; hydrogen = z.hydrogen; correction = z.correction; correctionDivisor = z.correctionDivisor } in
+      record { divisor = d; amount = z.amount; hydrogen = z.hydrogen; correction = z.correction; correction_divisor = z.correction_divisor } in
       let b' : Among r z' = rw same at b in
       let v = a.values in
       let v' = b'.values in
@@ -77,7 +77,7 @@ pub record Proper (r : Ranges) : Type 0 where
 
 -- whole amounts with hydrogen n / k and the correction y / d
 abbrev pub at : (ℕ → ℕ) → ℕ → ℕ → ℕ → ℕ → Choice
-at a k n y d = record { divisor = k; amount = λ i. a i * k; hydrogen = n; correction = y; correctionDivisor = d }
+at a k n y d = record { divisor = k; amount = λ i. a i * k; hydrogen = n; correction = y; correction_divisor = d }
 
 -- hydrogen a k-th above its low end, and a k-th below its high end, or the floor itself
 abbrev pub lowest : Ranges → ℕ → ℕ

@@ -6,7 +6,7 @@ use native.Mathlib.Nat.{le_trans, mul-le-mul_right}
 use native.Mathlib.Omega.{arith}
 use Rattle.judge.specs.Choices.{Bracket, InBracket, Ranges, Choice, Among}
 use Rattle.judge.specs.Verdicts.{applied}
-use Rattle.judge.specs.Corners.{Check, passesOf}
+use Rattle.judge.specs.Corners.{Check, passes_of}
 use Rattle.judge.specs.Finer.{Kept}
 use Rattle.judge.proofs.Mixing.{Proper}
 use Rattle.judge.proofs.Judging.{one-verdict, judged-few, judged-fewer}
@@ -44,14 +44,14 @@ module _ (old new : Ranges) (w : Narrower old new) where
               divides = v.divides;
               over = λ i. le_trans (mul-le-mul_right c.divisor (w.least i)) (v.over i);
               under = λ i. le_trans (v.under i) (mul-le-mul_right c.divisor (w.greatest i));
-              correction = in-wider old.correction new.correction w.correction c.correction c.correctionDivisor v.correction;
+              correction = in-wider old.correction new.correction w.correction c.correction c.correction_divisor v.correction;
             };
         hydrogen = rw (← w.floor, ← w.whole) a.hydrogen;
       }
 
 -- ---- the verdicts
 module _ (k : Check) (o : Sound k) (old new : Ranges) (p : Proper old) (p' : Proper new) (w : Narrower old new) where
-  passes_kept : Kept (passesOf k old) (passesOf k new)
+  passes_kept : Kept (passes_of k old) (passes_of k new)
   passes_kept =
       let c : (c : Choice) × Among new c = a-choice k o new p' in
       record {
@@ -60,7 +60,7 @@ module _ (k : Check) (o : Sound k) (old new : Ranges) (p : Proper old) (p' : Pro
       }
 
   -- where the check applies to both or to neither, and lacks a reading in both or in neither
-  pub verdict-kept : (applies known : Bool) → Kept (applied applies known (passesOf k old)) (applied applies known (passesOf k new))
+  pub verdict-kept : (applies known : Bool) → Kept (applied applies known (passes_of k old)) (applied applies known (passes_of k new))
   verdict-kept true true = passes_kept
   verdict-kept true false = record { stays = λ n. refl; undecided = λ e. absurd (omega arith) }
   verdict-kept false known = record { stays = λ n. refl; undecided = λ e. absurd (omega arith) }

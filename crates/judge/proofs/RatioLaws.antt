@@ -8,11 +8,11 @@ use native.Mathlib.Decide.{dec_lt}
 use native.Mathlib.Omega.{arith}
 use lib.Dec.{eqb, lit<}
 use borrow.Author.Tests.{eqb-true, eq-eqb, ne_eqb}
-use Rattle.record.specs.Record.{readings, ammonium, sodium, nitrate, chloride, totalNitrogen}
-use Rattle.solution.specs.Ions.{cationCharge, anionCharge, sum}
+use Rattle.record.specs.Record.{readings, ammonium, sodium, nitrate, chloride, total_nitrogen}
+use Rattle.solution.specs.Ions.{cation_charge, anion_charge, sum}
 use Rattle.judge.specs.Choices.{Choice}
 use Rattle.judge.specs.Corners.{only, Passes}
-use Rattle.judge.specs.Ratios.{SodiumChloride, sodiumChlorideCheck, Nitrogen, nitrogenCheck}
+use Rattle.judge.specs.Ratios.{SodiumChloride, sodium_chloride_check, Nitrogen, nitrogen_check}
 use Rattle.judge.proofs.CornerLaws.{Sound}
 
 -- a sum that weighs one reading is its weight times its amount: nothing up to the reading, and nothing more after it
@@ -60,32 +60,32 @@ apart f i w j none = go (eqb j i) refl
     go true e = inl (rw (eqb-true j i e) none)
     go false e = inr (rw e)
 
-pub ratio-sound : Sound sodiumChlorideCheck
+pub ratio-sound : Sound sodium_chloride_check
 ratio-sound =
     record {
       high = omega arith;
       low = omega arith;
       window = omega arith;
-      disjoint = λ j. apart (only sodium (cationCharge sodium)) chloride (anionCharge chloride) j refl;
+      disjoint = λ j. apart (only sodium (cation_charge sodium)) chloride (anion_charge chloride) j refl;
     }
 
-pub ratio-passes : (c : Choice) → Passes sodiumChlorideCheck c ↔ SodiumChloride c
+pub ratio-passes : (c : Choice) → Passes sodium_chloride_check c ↔ SodiumChloride c
 ratio-passes c =
-    let na = only_sum sodium (cationCharge sodium) c.amount (lit< tt) in
-    let cl = only_sum chloride (anionCharge chloride) c.amount (lit< tt) in
+    let na = only_sum sodium (cation_charge sodium) c.amount (lit< tt) in
+    let cl = only_sum chloride (anion_charge chloride) c.amount (lit< tt) in
     (λ w. record { low = omega (arith, w.low); high = omega (arith, w.high) }, λ w. record { high = omega (arith, w.high); low = omega (arith, w.low) })
 
-pub nitrogen-sound : Sound nitrogenCheck
+pub nitrogen-sound : Sound nitrogen_check
 nitrogen-sound =
     record {
       high = omega arith;
       low = omega arith;
       window = omega arith;
-      disjoint = λ j. apart (λ i. only nitrate 1 i + only ammonium 1 i) totalNitrogen 1 j refl;
+      disjoint = λ j. apart (λ i. only nitrate 1 i + only ammonium 1 i) total_nitrogen 1 j refl;
     }
 
-pub nitrogen-passes : (c : Choice) → Passes nitrogenCheck c ↔ Nitrogen c
+pub nitrogen-passes : (c : Choice) → Passes nitrogen_check c ↔ Nitrogen c
 nitrogen-passes c =
-    let total = only_sum totalNitrogen 1 c.amount (lit< tt) in
+    let total = only_sum total_nitrogen 1 c.amount (lit< tt) in
     let mineral = mineral-only c.amount in
     (λ w. record { holds = omega (arith, w.high) }, λ w. record { high = omega (arith, w.holds); low = omega arith })

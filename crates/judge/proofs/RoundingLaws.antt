@@ -10,15 +10,15 @@ use lib.Dec.{eqb, lit≤}
 use borrow.Author.Tests.{eqb-true, eqb-false}
 use Rattle.refusal.proofs.Testing.{leb-same}
 use Rattle.activity.specs.Brackets.{unit}
-use Rattle.solution.specs.Ions.{cationFactor, anionFactor, conductance, sum}
+use Rattle.solution.specs.Ions.{cation_factor, anion_factor, conductance, sum}
 use Rattle.solution.specs.Solutions.{SumRanges}
-use Rattle.solution.specs.Steps.{mostSums, Bounded}
+use Rattle.solution.specs.Steps.{most_sums, Bounded}
 use Rattle.judge.specs.Classes.{percent}
 use Rattle.judge.specs.Corners.{above, decided}
-use Rattle.judge.specs.Conductivity.{conductivityWindow}
-use Rattle.judge.specs.Ranges.{correctionIn}
-use Rattle.judge.specs.ByValue.{correctedBy}
-use Rattle.judge.specs.Steps.{toOdd}
+use Rattle.judge.specs.Conductivity.{conductivity_window}
+use Rattle.judge.specs.Ranges.{correction_in}
+use Rattle.judge.specs.ByValue.{corrected_by}
+use Rattle.judge.specs.Steps.{to_odd}
 
 -- from one even number of billions to the next
 abbrev two : ℕ
@@ -29,8 +29,8 @@ pub data Rounded (n : ℕ) : ℕ → Type 0 where
   exact : (q : ℕ) → n ≡ q * two → Rounded n (2 * q)
   between : (q : ℕ) → q * two < n → n < (q + 1) * two → Rounded n (2 * q + 1)
 
-pub rounded : (n : ℕ) → Rounded n (toOdd n)
-unfolding toOdd
+pub rounded : (n : ℕ) → Rounded n (to_odd n)
+unfolding to_odd
 rounded n = go (eqb (n % two) 0) refl
   where
     q : ℕ
@@ -41,11 +41,11 @@ rounded n = go (eqb (n % two) 0) refl
     go false e = Rounded.between q (omega (arith, eqb-false (n % two) 0 e)) (omega arith)
 
 -- ---- the code's way to the billionths y of p: by both parts of p
-most-calculated : mostSums.calculated ≤ unit * unit
-unfolding sum cationFactor anionFactor conductance
+most-calculated : most_sums.calculated ≤ unit * unit
+unfolding sum cation_factor anion_factor conductance
 most-calculated = lit≤ tt
 
-module _ (y p : ℕ) (small : y ≤ unit + 1) (some : p ≤ mostSums.calculated) where
+module _ (y p : ℕ) (small : y ≤ unit + 1) (some : p ≤ most_sums.calculated) where
   abbrev whole : ℕ
   whole = y * (p / two)
 
@@ -79,12 +79,12 @@ module _ (y p : ℕ) (small : y ≤ unit + 1) (some : p ≤ mostSums.calculated)
   same_whole : y * p / two ≡ whole + rest / two
   same_whole = omega (arith, in_parts)
 
-  pub even_is : eqb (y * (p % two) % two) 0 ≡ true → 2 * (y * (p / two) + y * (p % two) / two) ≡ toOdd (y * p)
-  unfolding toOdd
+  pub even_is : eqb (y * (p % two) % two) 0 ≡ true → 2 * (y * (p / two) + y * (p % two) / two) ≡ to_odd (y * p)
+  unfolding to_odd
   even_is t = rw (same_rest, same_whole, t)
 
-  pub odd_is : eqb (y * (p % two) % two) 0 ≡ false → 2 * (y * (p / two) + y * (p % two) / two) + 1 ≡ toOdd (y * p)
-  unfolding toOdd
+  pub odd_is : eqb (y * (p % two) % two) 0 ≡ false → 2 * (y * (p / two) + y * (p % two) / two) + 1 ≡ to_odd (y * p)
+  unfolding to_odd
   odd_is t = rw (same_rest, same_whole, t)
 
 -- ---- order
@@ -143,7 +143,7 @@ module _ (g m : ℕ) {n o : ℕ} (r : Rounded n o) where
       (λ h. omega (arith, at.most.0 (omega arith))) (λ h. omega (arith, at.most.1 (omega arith)))
 
 rounded-decided : (M m₀ m₁ : ℕ) (reached : Bool) {n₀ n₁ o₀ o₁ : ℕ} → Rounded n₀ o₀ → Rounded n₁ o₁
-    → decided (conductivityWindow M) reached o₀ o₁ (200 * m₀) (200 * m₁) ≡ decided (conductivityWindow M) reached n₀ n₁ (unit * (200 * m₀)) (unit * (200 * m₁))
+    → decided (conductivity_window M) reached o₀ o₁ (200 * m₀) (200 * m₁) ≡ decided (conductivity_window M) reached n₀ n₁ (unit * (200 * m₀)) (unit * (200 * m₁))
 unfolding decided
 rounded-decided M m₀ m₁ reached r₀ r₁ =
     let a = above-high (percent + M) m₁ r₀ reached in
@@ -155,13 +155,13 @@ rounded-decided M m₀ m₁ reached r₀ r₁ =
 -- ---- so of sums whose measured value is in tenths
 module _ (x : SumRanges) (b : Bounded x) (M : ℕ) where
   pub corrected-decided : {v : ℕ}
-      → v ≡ decided (conductivityWindow M) x.whole
-      (toOdd ((correctionIn x).least * x.least.calculated)) (toOdd ((correctionIn x).most * x.most.calculated)) x.least.measured x.most.measured
-      → v ≡ correctedBy (correctionIn x) (conductivityWindow M) x
+      → v ≡ decided (conductivity_window M) x.whole
+      (to_odd ((correction_in x).least * x.least.calculated)) (to_odd ((correction_in x).most * x.most.calculated)) x.least.measured x.most.measured
+      → v ≡ corrected_by (correction_in x) (conductivity_window M) x
   corrected-decided e =
-      let least : x.least.measured ≡ 200 * (x.least.measured / 200) = omega (arith, b.leastTenths) in
-      let most : x.most.measured ≡ 200 * (x.most.measured / 200) = omega (arith, b.mostTenths) in
+      let least : x.least.measured ≡ 200 * (x.least.measured / 200) = omega (arith, b.least_tenths) in
+      let most : x.most.measured ≡ 200 * (x.most.measured / 200) = omega (arith, b.most_tenths) in
       let same =
       rounded-decided M (x.least.measured / 200) (x.most.measured / 200) x.whole
-      (rounded ((correctionIn x).least * x.least.calculated)) (rounded ((correctionIn x).most * x.most.calculated)) in
+      (rounded ((correction_in x).least * x.least.calculated)) (rounded ((correction_in x).most * x.most.calculated)) in
       cc

@@ -37,7 +37,7 @@ pub record Choice : Type 0 where
   pub amount : ℕ → ℕ
   pub hydrogen : ℕ
   pub correction : ℕ
-  pub correctionDivisor : ℕ
+  pub correction_divisor : ℕ
 
 -- hydrogen n / d is h, or strictly between h and h + 1
 abbrev pub Hydrogen : Bool → ℕ → ℕ → ℕ → Type 0
@@ -49,7 +49,7 @@ pub record Values (r : Ranges) (c : Choice) : Type 0 where
   pub divides : 0 < c.divisor
   pub over : (i : ℕ) → r.least i * c.divisor ≤ c.amount i
   pub under : (i : ℕ) → c.amount i ≤ r.greatest i * c.divisor
-  pub correction : InBracket r.correction c.correction c.correctionDivisor
+  pub correction : InBracket r.correction c.correction c.correction_divisor
 
 pub record Among (r : Ranges) (c : Choice) : Type 0 where
   pub values : Values r c

@@ -3,8 +3,8 @@
 use Rattle.std.specs.Prelude.{ℕ}
 
 -- 'kind: 1 wet-only, 2 bulk open field, 3 throughfall, 4 stemflow, 5 runoff, 6 soil water'
-abbrev pub wetOnly : ℕ
-wetOnly = 1
+abbrev pub wet_only : ℕ
+wet_only = 1
 
 abbrev pub bulk : ℕ
 bulk = 2
@@ -16,16 +16,16 @@ abbrev pub runoff : ℕ
 runoff = 5
 
 -- 'up to 10.0', 'up to 20.0': a low and a medium conductivity, in tenths of µS/cm
-abbrev pub lowConductivity : ℕ
-lowConductivity = 100
+abbrev pub low_conductivity : ℕ
+low_conductivity = 100
 
-abbrev pub mediumConductivity : ℕ
-mediumConductivity = 200
+abbrev pub medium_conductivity : ℕ
+medium_conductivity = 200
 
 -- a difference in percent of a value, '100 times the difference'; and of the mean of two, '200 times the difference' against their
 -- sum
 abbrev pub percent : ℕ
 percent = 100
 
-abbrev pub percentOfMean : ℕ
-percentOfMean = 200
+abbrev pub percent_of_mean : ℕ
+percent_of_mean = 200

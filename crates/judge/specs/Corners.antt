@@ -49,14 +49,14 @@ abbrev pub factor : Bool → Choice → ℕ
 factor true c = c.correction
 factor false c = 1
 
-abbrev pub factorDivisor : Bool → Choice → ℕ
-factorDivisor true c = c.correctionDivisor
-factorDivisor false c = 1
+abbrev pub factor_divisor : Bool → Choice → ℕ
+factor_divisor true c = c.correction_divisor
+factor_divisor false c = 1
 
 -- the ratio is in the window
 pub record Passes (k : Check) (c : Choice) : Type 0 where
-  pub high : k.window.high.denominator * (factor k.corrected c * first_of k c) ≤ k.window.high.numerator * (factorDivisor k.corrected c * part_of k.second c)
-  pub low : k.window.low.numerator * (factorDivisor k.corrected c * part_of k.second c) ≤ k.window.low.denominator * (factor k.corrected c * first_of k c)
+  pub high : k.window.high.denominator * (factor k.corrected c * first_of k c) ≤ k.window.high.numerator * (factor_divisor k.corrected c * part_of k.second c)
+  pub low : k.window.low.numerator * (factor_divisor k.corrected c * part_of k.second c) ≤ k.window.low.denominator * (factor k.corrected c * first_of k c)
 
 -- ---- by the least and the greatest ratio
 -- a / b is above c / d; where the ends of a ratio are not reached, at least that
@@ -64,33 +64,33 @@ abbrev pub above : Bool → ℕ → ℕ → ℕ → ℕ → Bool
 above reached a b c d = cond reached (ltb (c * b) (d * a)) (leb (c * b) (d * a))
 
 -- one side of the window fails: x / y is above it, or x' / y' below it
-abbrev pub failsOne : Window → Bool → ℕ → ℕ → ℕ → ℕ → Bool
-failsOne w reached x y x' y' =
+abbrev pub fails_one : Window → Bool → ℕ → ℕ → ℕ → ℕ → Bool
+fails_one w reached x y x' y' =
     above reached x y w.high.numerator w.high.denominator || above reached w.low.numerator w.low.denominator x' y'
 
 -- first sums from x₀ to x₁, second sums from y₀ to y₁: ratios from x₀ / y₁ to x₁ / y₀, these two reached or not.
 -- 2 where even the best ratio fails one side of the window, 3 where the worst fails one, else 1
 unfoldable pub decided : Window → Bool → ℕ → ℕ → ℕ → ℕ → ℕ
-decided w reached x₀ x₁ y₀ y₁ = cond (failsOne w reached x₀ y₁ x₁ y₀) 2 (cond (failsOne w true x₁ y₀ x₀ y₁) 3 1)
+decided w reached x₀ x₁ y₀ y₁ = cond (fails_one w reached x₀ y₁ x₁ y₀) 2 (cond (fails_one w true x₁ y₀ x₀ y₁) 3 1)
 
 -- ---- over ranges
 -- the ends of the ratio are reached where hydrogen plays no part, or is its floor
-abbrev pub endsReached : Check → Ranges → Bool
-endsReached k r = eqb k.hydrogen 0 || r.whole
+abbrev pub ends_reached : Check → Ranges → Bool
+ends_reached k r = eqb k.hydrogen 0 || r.whole
 
 -- what the first sum is multiplied by
 abbrev pub bracket_of : Bool → Ranges → Bracket
 bracket_of true r = r.correction
 bracket_of false r = uncorrected
 
-abbrev pub leastFirst : Check → Ranges → ℕ
-leastFirst k r = k.hydrogen * r.floor + part_at k.first r.least
+abbrev pub least_first : Check → Ranges → ℕ
+least_first k r = k.hydrogen * r.floor + part_at k.first r.least
 
-abbrev pub mostFirst : Check → Ranges → ℕ
-mostFirst k r = k.hydrogen * (r.floor + gap r.whole) + part_at k.first r.greatest
+abbrev pub most_first : Check → Ranges → ℕ
+most_first k r = k.hydrogen * (r.floor + gap r.whole) + part_at k.first r.greatest
 
-abbrev pub passesOf : Check → Ranges → ℕ
-passesOf k r =
-    decided k.window (endsReached k r)
-    ((bracket_of k.corrected r).least * leastFirst k r) ((bracket_of k.corrected r).most * mostFirst k r)
+abbrev pub passes_of : Check → Ranges → ℕ
+passes_of k r =
+    decided k.window (ends_reached k r)
+    ((bracket_of k.corrected r).least * least_first k r) ((bracket_of k.corrected r).most * most_first k r)
     ((bracket_of k.corrected r).unit * part_at k.second r.least) ((bracket_of k.corrected r).unit * part_at k.second r.greatest)

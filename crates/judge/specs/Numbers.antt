@@ -3,9 +3,9 @@ use Rattle.std.specs.Prelude.{ℕ}
 use Rattle.judge.specs.declared.Verdict.{Verdict}
 use Rattle.judge.specs.declared.Verdict.TheVariants as verdict
 
-abbrev pub verdictNumber : Verdict → ℕ
-verdictNumber verdict.NotApplicable = 0
-verdictNumber verdict.Within = 1
-verdictNumber verdict.Outside = 2
-verdictNumber verdict.Undecided = 3
-verdictNumber verdict.Missing = 4
+abbrev pub verdict_number : Verdict → ℕ
+verdict_number verdict.NotApplicable = 0
+verdict_number verdict.Within = 1
+verdict_number verdict.Outside = 2
+verdict_number verdict.Undecided = 3
+verdict_number verdict.Missing = 4

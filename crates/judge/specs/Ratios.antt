@@ -2,84 +2,84 @@
 -- may now say undecided'.
 use Rattle.std.specs.Prelude.{Bool, false, not, ◌&&◌, List, ℕ, ◌+◌, ◌*◌, ◌≤◌, leb, eqb}
 use Rattle.reading.specs.Analytes.{present}
-use Rattle.record.specs.Record.{kind_of, readingAt, ammonium, sodium, nitrate, chloride, totalNitrogen}
-use Rattle.solution.specs.Ions.{cationCharge, anionCharge}
-use Rattle.solution.specs.Solutions.{leastAt}
+use Rattle.record.specs.Record.{kind_of, reading_at, ammonium, sodium, nitrate, chloride, total_nitrogen}
+use Rattle.solution.specs.Ions.{cation_charge, anion_charge}
+use Rattle.solution.specs.Solutions.{least_at}
 use Rattle.judge.specs.declared.window.Window.{Window}
 use Rattle.judge.specs.Classes.{stemflow}
 use Rattle.judge.specs.Choices.{Choice}
 use Rattle.judge.specs.Verdicts.{applied}
-use Rattle.judge.specs.Corners.{fraction, only, Check, passesOf}
-use Rattle.judge.specs.Ranges.{rangesOf}
+use Rattle.judge.specs.Corners.{fraction, only, Check, passes_of}
+use Rattle.judge.specs.Ranges.{ranges_of}
 
 -- ---- Na/Cl
 -- 'kinds 1 to 4, unless Cl is present with amount 0', and document 02 (vi): 'a chlorine range that contains 0 makes Na/Cl not
 -- applicable'. By the kind, whether Cl is there, and the least amount that it stands for: no amount is below 0, so a range contains
 -- 0 where it begins there
-abbrev pub ratioApplies : ℕ → Bool → ℕ → Bool
-ratioApplies kind hasChloride leastChloride = leb kind stemflow && not (hasChloride && eqb leastChloride 0)
+abbrev pub ratio_applies : ℕ → Bool → ℕ → Bool
+ratio_applies kind has_chloride least_chloride = leb kind stemflow && not (has_chloride && eqb least_chloride 0)
 
-abbrev pub ratioAppliesTo : List ℕ → Bool
-ratioAppliesTo s = ratioApplies (kind_of s) (present (readingAt s chloride)) (leastAt s chloride)
+abbrev pub ratio_applies_to : List ℕ → Bool
+ratio_applies_to s = ratio_applies (kind_of s) (present (reading_at s chloride)) (least_at s chloride)
 
 -- 'Cl missing gives 4'; 'needs both'
-abbrev pub ratioKnown : List ℕ → Bool
-ratioKnown s = present (readingAt s chloride) && present (readingAt s sodium)
+abbrev pub ratio_known : List ℕ → Bool
+ratio_known s = present (reading_at s chloride) && present (reading_at s sodium)
 
 -- the charges of sodium and chloride, of a choice and divisor times
-abbrev pub sodiumCharge : Choice → ℕ
-sodiumCharge c = cationCharge sodium * c.amount sodium
+abbrev pub sodium_charge : Choice → ℕ
+sodium_charge c = cation_charge sodium * c.amount sodium
 
-abbrev pub chlorideCharge : Choice → ℕ
-chlorideCharge c = anionCharge chloride * c.amount chloride
+abbrev pub chloride_charge : Choice → ℕ
+chloride_charge c = anion_charge chloride * c.amount chloride
 
 -- 'the ratio of charges is from 0.5 to 1.5, ends included', both sides taken twice
 pub record SodiumChloride (c : Choice) : Type 0 where
-  pub low : chlorideCharge c ≤ 2 * sodiumCharge c
-  pub high : 2 * sodiumCharge c ≤ 3 * chlorideCharge c
+  pub low : chloride_charge c ≤ 2 * sodium_charge c
+  pub high : 2 * sodium_charge c ≤ 3 * chloride_charge c
 
 -- the same as a window of the ratio
-abbrev pub sodiumChlorideWindow : Window
-sodiumChlorideWindow = record { low = fraction 1 2; high = fraction 3 2 }
+abbrev pub sodium_chloride_window : Window
+sodium_chloride_window = record { low = fraction 1 2; high = fraction 3 2 }
 
-abbrev pub sodiumChlorideCheck : Check
-sodiumChlorideCheck =
+abbrev pub sodium_chloride_check : Check
+sodium_chloride_check =
     record {
       hydrogen = 0;
       corrected = false;
-      first = record { fixed = 0; weight = only sodium (cationCharge sodium) };
-      second = record { fixed = 0; weight = only chloride (anionCharge chloride) };
-      window = sodiumChlorideWindow;
+      first = record { fixed = 0; weight = only sodium (cation_charge sodium) };
+      second = record { fixed = 0; weight = only chloride (anion_charge chloride) };
+      window = sodium_chloride_window;
     }
 
-abbrev pub sodiumChlorideOf : List ℕ → ℕ
-sodiumChlorideOf s = applied (ratioAppliesTo s) (ratioKnown s) (passesOf sodiumChlorideCheck (rangesOf s))
+abbrev pub sodium_chloride_of : List ℕ → ℕ
+sodium_chloride_of s = applied (ratio_applies_to s) (ratio_known s) (passes_of sodium_chloride_check (ranges_of s))
 
 -- ---- nitrogen
 -- 'all kinds with TN present'; 'needs both'
-abbrev pub nitrogenAppliesTo : List ℕ → Bool
-nitrogenAppliesTo s = present (readingAt s totalNitrogen)
+abbrev pub nitrogen_applies_to : List ℕ → Bool
+nitrogen_applies_to s = present (reading_at s total_nitrogen)
 
-abbrev pub nitrogenKnown : List ℕ → Bool
-nitrogenKnown s = present (readingAt s nitrate) && present (readingAt s ammonium)
+abbrev pub nitrogen_known : List ℕ → Bool
+nitrogen_known s = present (reading_at s nitrate) && present (reading_at s ammonium)
 
 -- 'TN is at least NO3-N plus NH4-N, in amounts', of a choice and divisor times
 pub record Nitrogen (c : Choice) : Type 0 where
-  pub holds : c.amount nitrate + c.amount ammonium ≤ c.amount totalNitrogen
+  pub holds : c.amount nitrate + c.amount ammonium ≤ c.amount total_nitrogen
 
 -- the same as a window: their ratio to TN is at most 1
-abbrev pub nitrogenWindow : Window
-nitrogenWindow = record { low = fraction 0 1; high = fraction 1 1 }
+abbrev pub nitrogen_window : Window
+nitrogen_window = record { low = fraction 0 1; high = fraction 1 1 }
 
-abbrev pub nitrogenCheck : Check
-nitrogenCheck =
+abbrev pub nitrogen_check : Check
+nitrogen_check =
     record {
       hydrogen = 0;
       corrected = false;
       first = record { fixed = 0; weight = λ i. only nitrate 1 i + only ammonium 1 i };
-      second = record { fixed = 0; weight = only totalNitrogen 1 };
-      window = nitrogenWindow;
+      second = record { fixed = 0; weight = only total_nitrogen 1 };
+      window = nitrogen_window;
     }
 
-abbrev pub nitrogenOf : List ℕ → ℕ
-nitrogenOf s = applied (nitrogenAppliesTo s) (nitrogenKnown s) (passesOf nitrogenCheck (rangesOf s))
+abbrev pub nitrogen_of : List ℕ → ℕ
+nitrogen_of s = applied (nitrogen_applies_to s) (nitrogen_known s) (passes_of nitrogen_check (ranges_of s))

@@ -5,40 +5,40 @@ use Rattle.refusal.specs.Outcome.{Outcome}
 use Rattle.refusal.specs.Outcome.Outcome.{given, refused}
 use Rattle.refusal.specs.Numbers.{number_of}
 use Rattle.record.specs.Record.{accepted}
-use Rattle.agreement.specs.Agreement.{agreementOf}
+use Rattle.agreement.specs.Agreement.{agreement_of}
 use Rattle.judge.specs.declared.Acceptance.{Acceptance}
 use Rattle.judge.specs.declared.Acceptance.TheVariants as acceptance
 use Rattle.judge.specs.declared.Comparison.{Comparison}
 use Rattle.judge.specs.declared.Comparison.TheVariants as comparison
-pub use Rattle.record.specs.Record.{recordWords}
-unfoldable pub use Rattle.record.specs.Record.{sameSampleOf}
+pub use Rattle.record.specs.Record.{record_words}
+unfoldable pub use Rattle.record.specs.Record.{same_sample_of}
 unfoldable pub use Rattle.agreement.specs.Agreement.{agrees}
 
 -- 'the record's own tests' alone: nothing is told but that they accept it, or the number of the first that refuses it
-abbrev pub acceptanceOutcome : Acceptance → Outcome (Unit {0})
-acceptanceOutcome acceptance.Accepted = given tt
-acceptanceOutcome (acceptance.Refused why) = refused (number_of why)
+abbrev pub acceptance_outcome : Acceptance → Outcome (Unit {0})
+acceptance_outcome acceptance.Accepted = given tt
+acceptance_outcome (acceptance.Refused why) = refused (number_of why)
 
-unfoldable pub acceptanceOf : List ℕ → Outcome (Unit {0})
-acceptanceOf s = accepted s (given tt)
+unfoldable pub acceptance_of : List ℕ → Outcome (Unit {0})
+acceptance_of s = accepted s (given tt)
 
 -- how a repeat compares with the record before it: it 'differs .. in what 12 compares', or is of the same sample and agrees or not
 pub data Compared : Type 0 where
-  otherSample : Compared
+  other_sample : Compared
   differing : Compared
   agreeing : Compared
 
-abbrev pub comparisonOutcome : Comparison → Outcome Compared
-comparisonOutcome comparison.Agree = given agreeing
-comparisonOutcome comparison.Differ = given differing
-comparisonOutcome comparison.OtherSample = given otherSample
-comparisonOutcome (comparison.Refused why) = refused (number_of why)
+abbrev pub comparison_outcome : Comparison → Outcome Compared
+comparison_outcome comparison.Agree = given agreeing
+comparison_outcome comparison.Differ = given differing
+comparison_outcome comparison.OtherSample = given other_sample
+comparison_outcome (comparison.Refused why) = refused (number_of why)
 
 -- by whether they agree, or why that is not told, and whether they are of one sample
-abbrev pub comparedBy : Outcome Bool → Bool → Outcome Compared
-comparedBy (given agree) same = given (cond same (cond agree agreeing differing) otherSample)
-comparedBy (refused n) same = refused n
+abbrev pub compared_by : Outcome Bool → Bool → Outcome Compared
+compared_by (given agree) same = given (cond same (cond agree agreeing differing) other_sample)
+compared_by (refused n) same = refused n
 
 -- of any two slices: the first is tested, then the second
-unfoldable pub comparisonOf : List ℕ → List ℕ → Outcome Compared
-comparisonOf s t = comparedBy (agreementOf s t) (sameSampleOf s t)
+unfoldable pub comparison_of : List ℕ → List ℕ → Outcome Compared
+comparison_of s t = compared_by (agreement_of s t) (same_sample_of s t)

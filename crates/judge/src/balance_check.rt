@@ -1,14 +1,14 @@
 // The ion balance.
 ghost use Rattle.std.specs.Prelude.{◌≡◌, ◌≤◌};
 ghost use Rattle.reading.specs.Analytes.{present};
-ghost use Rattle.record.specs.Record.{organicCarbon};
-ghost use Rattle.record.specs.Tested.{analyteAt};
-ghost use Rattle.judge.specs.Numbers.{verdictNumber};
-ghost use Rattle.solution.specs.Solutions.{sumRangesIn};
+ghost use Rattle.record.specs.Record.{organic_carbon};
+ghost use Rattle.record.specs.Tested.{analyte_at};
+ghost use Rattle.judge.specs.Numbers.{verdict_number};
+ghost use Rattle.solution.specs.Solutions.{sum_ranges_in};
 ghost use Rattle.solution.specs.Steps.{Bounded};
-ghost use Rattle.judge.specs.ByValue.{balanceIn};
-ghost use Rattle.judge.specs.Classes.{percentOfMean};
-ghost use Rattle.judge.specs.IonBalance.{balanceApplies, balanceLimit, balanceWindow};
+ghost use Rattle.judge.specs.ByValue.{balance_in};
+ghost use Rattle.judge.specs.Classes.{percent_of_mean};
+ghost use Rattle.judge.specs.IonBalance.{balance_applies, balance_limit, balance_window};
 
 use crate::classes::{BULK, MEDIUM_CONDUCTIVITY, PERCENT_OF_MEAN, RUNOFF, WET_ONLY};
 use crate::ratio::Fraction;
@@ -28,8 +28,8 @@ pub fn of_record(
     measured: u32,
     solution: Solution,
 ) -> Verdict
-    requires { Bounded (sumRangesIn solution) }
-    ensures { verdictNumber result ≡ balanceIn kind (analyteAt analytes organicCarbon) measured (sumRangesIn solution) }
+    requires { Bounded (sum_ranges_in solution) }
+    ensures { verdict_number result ≡ balance_in kind (analyte_at analytes organic_carbon) measured (sum_ranges_in solution) }
 {
     let carbon = analytes[record::ORGANIC_CARBON];
     if !applies(kind, carbon) {
@@ -45,7 +45,7 @@ pub fn of_record(
 
 // Open field samples, and runoff with little dissolved organic carbon, whose charge is not known.
 fn applies(kind: u32, carbon: Analyte) -> bool
-    ensures { result ≡ balanceApplies kind (present carbon.reading) carbon.mass.0 }
+    ensures { result ≡ balance_applies kind (present carbon.reading) carbon.mass.0 }
 {
     if kind == WET_ONLY {
         return true;
@@ -65,7 +65,7 @@ fn applies(kind: u32, carbon: Analyte) -> bool
 
 // The window of cations to anions, by the measured conductivity: a limit of 20 percent up to 20.0 µS/cm, of 10 above.
 fn window_at(measured: u32) -> Window
-    ensures { result ≡ balanceWindow (balanceLimit measured) }
+    ensures { result ≡ balance_window (balance_limit measured) }
 {
     if measured <= MEDIUM_CONDUCTIVITY {
         return within(20);
@@ -75,8 +75,8 @@ fn window_at(measured: u32) -> Window
 
 // A difference of two sums of at most so many percent of their mean.
 fn within(limit: u64) -> Window
-    requires { limit ≤ percentOfMean }
-    ensures { result ≡ balanceWindow limit }
+    requires { limit ≤ percent_of_mean }
+    ensures { result ≡ balance_window limit }
 {
     let less = PERCENT_OF_MEAN - limit;
     let more = PERCENT_OF_MEAN + limit;

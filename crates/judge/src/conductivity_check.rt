@@ -1,11 +1,11 @@
 // The conductivity that the ions account for, corrected for their strength, against the measured one.
 ghost use Rattle.std.specs.Prelude.{◌≡◌, ◌≤◌};
-ghost use Rattle.judge.specs.Numbers.{verdictNumber};
-ghost use Rattle.solution.specs.Solutions.{sumRangesIn};
+ghost use Rattle.judge.specs.Numbers.{verdict_number};
+ghost use Rattle.solution.specs.Solutions.{sum_ranges_in};
 ghost use Rattle.solution.specs.Steps.{Bounded};
-ghost use Rattle.judge.specs.ByValue.{conductivityIn};
+ghost use Rattle.judge.specs.ByValue.{conductivity_in};
 ghost use Rattle.judge.specs.Classes.{percent};
-ghost use Rattle.judge.specs.Conductivity.{conductivityLimit, conductivityWindow};
+ghost use Rattle.judge.specs.Conductivity.{conductivity_limit, conductivity_window};
 
 use crate::classes::{LOW_CONDUCTIVITY, MEDIUM_CONDUCTIVITY, PERCENT};
 use crate::ratio::Fraction;
@@ -17,8 +17,8 @@ use solution::Solution;
 // The check of a record, by its measured conductivity in tenths of µS/cm and its solution. No record is too strong for a bracket
 // of y², so the answer to that is never given.
 pub fn of_record(measured: u32, solution: Solution) -> Verdict
-    requires { Bounded (sumRangesIn solution) }
-    ensures { verdictNumber result ≡ conductivityIn measured (sumRangesIn solution) }
+    requires { Bounded (sum_ranges_in solution) }
+    ensures { verdict_number result ≡ conductivity_in measured (sum_ranges_in solution) }
 {
     if !solution.known {
         return Verdict::Missing;
@@ -40,7 +40,7 @@ pub fn of_record(measured: u32, solution: Solution) -> Verdict
 
 // The window of calculated to measured conductivity: within 30 percent up to 10.0 µS/cm, 20 up to 20.0, 10 above.
 fn window_at(measured: u32) -> Window
-    ensures { result ≡ conductivityWindow (conductivityLimit measured) }
+    ensures { result ≡ conductivity_window (conductivity_limit measured) }
 {
     if measured <= LOW_CONDUCTIVITY {
         return within(30);
@@ -54,7 +54,7 @@ fn window_at(measured: u32) -> Window
 // At most so many percent from the measured value.
 fn within(limit: u64) -> Window
     requires { limit ≤ percent }
-    ensures { result ≡ conductivityWindow limit }
+    ensures { result ≡ conductivity_window limit }
 {
     Window {
         low: Fraction {

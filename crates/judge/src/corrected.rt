@@ -4,8 +4,8 @@
 // stays where the exact product was.
 ghost use Rattle.std.specs.Prelude.{◌≡◌, ◌+◌, ◌*◌, ◌≤◌};
 ghost use Rattle.activity.specs.Brackets.{unit};
-ghost use Rattle.solution.specs.Steps.{mostSums};
-ghost use Rattle.judge.specs.Steps.{toOdd};
+ghost use Rattle.solution.specs.Steps.{most_sums};
+ghost use Rattle.judge.specs.Steps.{to_odd};
 
 use activity::UNIT;
 use solution::Conductivity;
@@ -14,8 +14,8 @@ const TWICE: u64 = 2 * UNIT;
 
 // So many billionths of a conductivity, rounded to odd.
 pub fn times(billionths: u64, plain: Conductivity) -> Conductivity
-    requires { (billionths ≤ unit + 1) × (plain.0 ≤ mostSums.calculated) }
-    ensures { result.0 ≡ toOdd (billionths * plain.0) }
+    requires { (billionths ≤ unit + 1) × (plain.0 ≤ most_sums.calculated) }
+    ensures { result.0 ≡ to_odd (billionths * plain.0) }
 {
     let rest = billionths * (plain.0 % TWICE);
     let even = 2 * (billionths * (plain.0 / TWICE) + rest / TWICE);

@@ -1,12 +1,12 @@
 // Total nitrogen against the nitrogen of nitrate and ammonium.
 ghost use Rattle.std.specs.Prelude.{◌≡◌};
-ghost use Rattle.record.specs.Record.{ammonium, nitrate, totalNitrogen};
-ghost use Rattle.record.specs.Tested.{analyteAt};
-ghost use Rattle.judge.specs.Numbers.{verdictNumber};
-ghost use Rattle.solution.specs.Solutions.{sumRangesIn};
+ghost use Rattle.record.specs.Record.{ammonium, nitrate, total_nitrogen};
+ghost use Rattle.record.specs.Tested.{analyte_at};
+ghost use Rattle.judge.specs.Numbers.{verdict_number};
+ghost use Rattle.solution.specs.Solutions.{sum_ranges_in};
 ghost use Rattle.solution.specs.Steps.{Bounded};
-ghost use Rattle.judge.specs.Ratios.{nitrogenWindow};
-ghost use Rattle.judge.specs.ByValue.{nitrogenIn};
+ghost use Rattle.judge.specs.Ratios.{nitrogen_window};
+ghost use Rattle.judge.specs.ByValue.{nitrogen_in};
 
 use crate::ratio::Fraction;
 use crate::window::Window;
@@ -16,8 +16,8 @@ use solution::Solution;
 
 // The check of a record, by its readings and its solution.
 pub fn of_record(analytes: [Analyte; record::READINGS], solution: Solution) -> Verdict
-    requires { Bounded (sumRangesIn solution) }
-    ensures { verdictNumber result ≡ nitrogenIn (analyteAt analytes totalNitrogen) (analyteAt analytes nitrate) (analyteAt analytes ammonium) (sumRangesIn solution) }
+    requires { Bounded (sum_ranges_in solution) }
+    ensures { verdict_number result ≡ nitrogen_in (analyte_at analytes total_nitrogen) (analyte_at analytes nitrate) (analyte_at analytes ammonium) (sum_ranges_in solution) }
 {
     let total = analytes[record::TOTAL_NITROGEN];
     let reading = total.reading;
@@ -47,7 +47,7 @@ pub fn of_record(analytes: [Analyte; record::READINGS], solution: Solution) -> V
 
 // At most all of it.
 fn window() -> Window
-    ensures { result ≡ nitrogenWindow }
+    ensures { result ≡ nitrogen_window }
 {
     Window {
         low: Fraction {

@@ -1,12 +1,12 @@
 // The sodium/chloride ratio.
 ghost use Rattle.std.specs.Prelude.{◌≡◌};
 ghost use Rattle.record.specs.Record.{sodium, chloride};
-ghost use Rattle.record.specs.Tested.{analyteAt};
-ghost use Rattle.judge.specs.Numbers.{verdictNumber};
-ghost use Rattle.solution.specs.Solutions.{sumRangesIn};
+ghost use Rattle.record.specs.Tested.{analyte_at};
+ghost use Rattle.judge.specs.Numbers.{verdict_number};
+ghost use Rattle.solution.specs.Solutions.{sum_ranges_in};
 ghost use Rattle.solution.specs.Steps.{Bounded};
-ghost use Rattle.judge.specs.Ratios.{sodiumChlorideWindow};
-ghost use Rattle.judge.specs.ByValue.{ratioIn};
+ghost use Rattle.judge.specs.Ratios.{sodium_chloride_window};
+ghost use Rattle.judge.specs.ByValue.{ratio_in};
 
 use crate::classes::STEMFLOW;
 use crate::ratio::Fraction;
@@ -18,8 +18,8 @@ use solution::Solution;
 // The check of a record, by its kind, its readings and its solution. A chloride that may be 0 leaves no ratio, whatever
 // sodium is.
 pub fn of_record(kind: u32, analytes: [Analyte; record::READINGS], solution: Solution) -> Verdict
-    requires { Bounded (sumRangesIn solution) }
-    ensures { verdictNumber result ≡ ratioIn kind (analyteAt analytes sodium) (analyteAt analytes chloride) (sumRangesIn solution) }
+    requires { Bounded (sum_ranges_in solution) }
+    ensures { verdict_number result ≡ ratio_in kind (analyte_at analytes sodium) (analyte_at analytes chloride) (sum_ranges_in solution) }
 {
     if kind > STEMFLOW {
         return Verdict::NotApplicable;
@@ -45,7 +45,7 @@ pub fn of_record(kind: u32, analytes: [Analyte; record::READINGS], solution: Sol
 
 // From a half to one and a half.
 fn window() -> Window
-    ensures { result ≡ sodiumChlorideWindow }
+    ensures { result ≡ sodium_chloride_window }
 {
     Window {
         low: Fraction {

@@ -1,11 +1,11 @@
 // A batch judged, and the text of its answer: each `put` writes to the start of `text`, and answers how long the text is.
 ghost use Rattle.std.specs.Prelude.{◌≡◌, ◌≤◌, length};
 ghost use Rattle.refusal.specs.Outcome.Outcome.{given};
-ghost use Rattle.refusal.specs.Lent.{lentAfter};
-ghost use Rattle.batch.specs.Rows.{batchAnswer};
+ghost use Rattle.refusal.specs.Lent.{lent_after};
+ghost use Rattle.batch.specs.Rows.{batch_answer};
 ghost use Rattle.words.specs.Words.{words_of};
-ghost use Rattle.batch.specs.Input.{mostBytes};
-ghost use Rattle.listing.specs.Listing.{text_of, mostText};
+ghost use Rattle.batch.specs.Input.{most_bytes};
+ghost use Rattle.listing.specs.Listing.{text_of, most_text};
 ghost use Rattle.listing.specs.Steps.{answer_in, Answered};
 
 use crate::lines;
@@ -14,10 +14,10 @@ use refusal::Written;
 
 // The text of a batch lent as bytes.
 pub fn put_text(text: &mut [u8], bytes: &[u8]) -> usize
-    requires most_text_in_bounds { mostText ≤ length text.old }
-    requires bytes_len_bound { length bytes.now ≤ mostBytes }
-    ensures value { result ≡ length (text_of (batchAnswer (words_of bytes.now))) }
-    ensures text_after { text.new ≡ lentAfter (given (text_of (batchAnswer (words_of bytes.now)))) text.old }
+    requires most_text_in_bounds { most_text ≤ length text.old }
+    requires bytes_len_bound { length bytes.now ≤ most_bytes }
+    ensures value { result ≡ length (text_of (batch_answer (words_of bytes.now))) }
+    ensures text_after { text.new ≡ lent_after (given (text_of (batch_answer (words_of bytes.now)))) text.old }
 {
     let mut words = [0u32; MOST_WORDS];
     let count = words::unpack(bytes, &mut words);
@@ -26,9 +26,9 @@ pub fn put_text(text: &mut [u8], bytes: &[u8]) -> usize
 
 // The text of a batch lent as words.
 fn put_judged(text: &mut [u8], words: &[u32]) -> usize
-    requires { mostText ≤ length text.old }
-    ensures value { result ≡ length (text_of (batchAnswer words.now)) }
-    ensures text_after { text.new ≡ lentAfter (given (text_of (batchAnswer words.now))) text.old }
+    requires { most_text ≤ length text.old }
+    ensures value { result ≡ length (text_of (batch_answer words.now)) }
+    ensures text_after { text.new ≡ lent_after (given (text_of (batch_answer words.now))) text.old }
 {
     // As long as the longest answer, so that none is refused for want of room.
     let mut answer = [0u32; batch::MOST_ANSWER];
@@ -38,10 +38,10 @@ fn put_judged(text: &mut [u8], words: &[u32]) -> usize
 
 // The text of an answer that was written to the start of a slice.
 fn put_answer(text: &mut [u8], answer: &[u32], written: Written) -> usize
-    requires most_text_in_bounds { mostText ≤ length text.old }
+    requires most_text_in_bounds { most_text ≤ length text.old }
     requires answered { Answered written answer.now }
     ensures value { result ≡ length (text_of (answer_in written answer.now)) }
-    ensures text_after { text.new ≡ lentAfter (given (text_of (answer_in written answer.now))) text.old }
+    ensures text_after { text.new ≡ lent_after (given (text_of (answer_in written answer.now))) text.old }
 {
     match written {
         Written::Length(_) => lines::put_listing(text, answer),

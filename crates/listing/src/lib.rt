@@ -7,10 +7,10 @@ mod lines;
 
 ghost use Rattle.std.specs.Prelude.{◌≡◌, ◌≤◌, length};
 ghost use Rattle.refusal.specs.Outcome.Outcome.{given};
-ghost use Rattle.refusal.specs.Lent.{fitting, length_of, lentAfter, writtenOutcome};
+ghost use Rattle.refusal.specs.Lent.{fitting, length_of, lent_after, written_outcome};
 ghost use Rattle.batch.specs.Input.{ByteLimit};
 ghost use Rattle.listing.specs.Decimal.{DecimalTruth};
-ghost use Rattle.listing.specs.Listing.{listText, TextFits};
+ghost use Rattle.listing.specs.Listing.{list_text, TextFits};
 
 use batch::{MOST_SAMPLES, input, widths};
 use refusal::{Refusal, Written};
@@ -31,8 +31,8 @@ pub const MOST_TEXT: usize = COUNT_LINE + MOST_SAMPLES * ROW_LINE;
 // Writes the text of a batch, lent as bytes, to the start of `text`, and answers how long it is. Every text fits: that the
 // answer is within the array follows from the other promises, and is said for the caller who lends that part of it.
 pub fn text_of(bytes: &[u8], text: &mut [u8; MOST_TEXT]) -> usize
-    ensures answer { result ≡ length (listText bytes.now) }
-    ensures lent { text.new ≡ lentAfter (given (listText bytes.now)) text.old }
+    ensures answer { result ≡ length (list_text bytes.now) }
+    ensures lent { text.new ≡ lent_after (given (list_text bytes.now)) text.old }
     ensures within { result ≤ length text.new }
     ensures fits { TextFits }
 {
@@ -46,8 +46,8 @@ pub fn text_of(bytes: &[u8], text: &mut [u8; MOST_TEXT]) -> usize
 // it was: the text is made apart, and copied once nothing can be refused any more. The last three promises are that no text
 // is longer than the longest, that digits say their number, and that the limit on bytes is document 02's.
 pub fn list(bytes: &[u8], text: &mut [u8]) -> Written
-    ensures answer { writtenOutcome result ≡ length_of (fitting (length text.old) (given (listText bytes.now))) }
-    ensures lent { text.new ≡ lentAfter (fitting (length text.old) (given (listText bytes.now))) text.old }
+    ensures answer { written_outcome result ≡ length_of (fitting (length text.old) (given (list_text bytes.now))) }
+    ensures lent { text.new ≡ lent_after (fitting (length text.old) (given (list_text bytes.now))) text.old }
     ensures fits { TextFits }
     ensures decimals { DecimalTruth }
     ensures limit { ByteLimit }

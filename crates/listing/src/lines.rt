@@ -2,10 +2,10 @@
 ghost use Rattle.std.specs.Prelude.{◌++◌, ◌∷◌, [], ◌≡◌, ◌+◌, ◌*◌, ◌≤◌, ◌<◌, length, get_or};
 ghost use Rattle.refusal.specs.Numbers.{number_of};
 ghost use Rattle.refusal.specs.Outcome.Outcome.{given};
-ghost use Rattle.refusal.specs.Lent.{lentAfter, placed};
-ghost use Rattle.batch.specs.Rows.{rowWidths, rowWords, row_at, rowFields};
+ghost use Rattle.refusal.specs.Lent.{lent_after, placed};
+ghost use Rattle.batch.specs.Rows.{row_widths, row_words, row_at, row_fields};
 ghost use Rattle.listing.specs.Decimal.{decimal};
-ghost use Rattle.listing.specs.Listing.{ending as Listing·ending, row_line, listingText, refusedText};
+ghost use Rattle.listing.specs.Listing.{ending as Listing·ending, row_line, listing_text, refused_text};
 
 use crate::decimal;
 use batch::ROW_WORDS;
@@ -18,10 +18,10 @@ const LAST: usize = ROW_FIELDS - 1;
 
 // The text of a batch's answer, which stands at the start of `words`: the count on the first line, then a row a line.
 pub fn put_listing(text: &mut [u8], words: &[u32]) -> usize
-    requires words_in_bounds { 1 + rowWords * get_or words.now 0 0 ≤ length words.now }
-    requires words_in_bounds_2 { length (listingText words.now) ≤ length text.old }
-    ensures value { result ≡ length (listingText words.now) }
-    ensures text_after { text.new ≡ lentAfter (given (listingText words.now)) text.old }
+    requires words_in_bounds { 1 + row_words * get_or words.now 0 0 ≤ length words.now }
+    requires words_in_bounds_2 { length (listing_text words.now) ≤ length text.old }
+    ensures value { result ≡ length (listing_text words.now) }
+    ensures text_after { text.new ≡ lent_after (given (listing_text words.now)) text.old }
 {
     let count = words[0];
     let mut next = put_field(text, 0, count as u64, 0);
@@ -37,9 +37,9 @@ pub fn put_listing(text: &mut [u8], words: &[u32]) -> usize
 
 // The text of a refusal.
 pub fn put_refusal(text: &mut [u8], why: Refusal) -> usize
-    requires { length (refusedText (number_of why)) ≤ length text.old }
-    ensures value { result ≡ length (refusedText (number_of why)) }
-    ensures text_after { text.new ≡ lentAfter (given (refusedText (number_of why))) text.old }
+    requires { length (refused_text (number_of why)) ≤ length text.old }
+    ensures value { result ≡ length (refused_text (number_of why)) }
+    ensures text_after { text.new ≡ lent_after (given (refused_text (number_of why))) text.old }
 {
     let next = bytes::copy(b"refused ", text);
     put_field(text, next, why.number() as u64, 0)
@@ -47,7 +47,7 @@ pub fn put_refusal(text: &mut [u8], why: Refusal) -> usize
 
 // The row that begins at a word.
 fn put_row(text: &mut [u8], at: usize, words: &[u32], from: usize) -> usize
-    requires row_words_in_bounds { from + rowWords ≤ length words.now }
+    requires row_words_in_bounds { from + row_words ≤ length words.now }
     requires from_in_bounds { at + length (row_line (row_at words.now from)) ≤ length text.old }
     ensures value { result ≡ at + length (row_line (row_at words.now from)) }
     ensures text_after { text.new ≡ placed text.old at (row_line (row_at words.now from)) }
@@ -63,9 +63,9 @@ fn put_row(text: &mut [u8], at: usize, words: &[u32], from: usize) -> usize
 
 // A field of the row that begins at a word: the whole number, or a word after its own.
 fn field(words: &[u32], from: usize, i: usize) -> u64
-    requires row_words_in_bounds { from + rowWords ≤ length words.now }
-    requires i_in_bounds { i < length rowWidths }
-    ensures { result ≡ get_or (rowFields (row_at words.now from)) i 0 }
+    requires row_words_in_bounds { from + row_words ≤ length words.now }
+    requires i_in_bounds { i < length row_widths }
+    ensures { result ≡ get_or (row_fields (row_at words.now from)) i 0 }
 {
     if i == 0 {
         let high = words[from];

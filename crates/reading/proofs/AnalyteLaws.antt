@@ -9,64 +9,64 @@ use Rattle.refusal.proofs.Outcomes.{never}
 use Rattle.reading.specs.declared.Reading.{Reading}
 use Rattle.reading.specs.declared.Reading.TheVariants.{Missing, Measured, Below}
 use Rattle.reading.specs.declared.Analyte.{Analyte}
-use Rattle.reading.specs.Ranges.{is_value, isLimit}
-use Rattle.reading.specs.Readings.{isInRange, InRange}
-use Rattle.reading.specs.Amounts.{Amount, valueMass, halfMass, valueAmount, halfAmount, amountOf}
-use Rattle.reading.specs.Analytes.{present, massIn, massOf, limitOf, analyteOf, withAmount}
+use Rattle.reading.specs.Ranges.{is_value, is_limit}
+use Rattle.reading.specs.Readings.{is_in_range, InRange}
+use Rattle.reading.specs.Amounts.{Amount, value_mass, half_mass, value_amount, half_amount, amount_of}
+use Rattle.reading.specs.Analytes.{present, mass_in, mass_of, limit_of, analyte_of, with_amount}
 use Rattle.reading.proofs.Tested.{refuses, gives}
 
 -- ---- the mass of a reading in range
-pub missing-mass : 0 ≡ massOf Missing
-unfolding massOf
+pub missing-mass : 0 ≡ mass_of Missing
+unfolding mass_of
 missing-mass = refl
 
-pub measured-mass : (x : Float) → is_value x ≡ true → valueMass x ≡ massOf (Measured x)
-unfolding massOf valueAmount
-measured-mass x h = ap massIn (gives (Amount.mass (valueMass x)) h)
+pub measured-mass : (x : Float) → is_value x ≡ true → value_mass x ≡ mass_of (Measured x)
+unfolding mass_of value_amount
+measured-mass x h = ap mass_in (gives (Amount.mass (value_mass x)) h)
 
-pub below-mass : (x : Float) → isLimit x ≡ true → halfMass x ≡ massOf (Below x)
-unfolding massOf halfAmount
-below-mass x h = ap massIn (gives (Amount.mass (halfMass x)) h)
+pub below-mass : (x : Float) → is_limit x ≡ true → half_mass x ≡ mass_of (Below x)
+unfolding mass_of half_amount
+below-mass x h = ap mass_in (gives (Amount.mass (half_mass x)) h)
 
 -- nothing of a limit out of range
-pub none_below : (x : Float) → isLimit x ≡ false → 0 ≡ massOf (Below x)
-unfolding massOf halfAmount
-none_below x h = ap massIn (refuses (Amount.mass (halfMass x)) h)
+pub none_below : (x : Float) → is_limit x ≡ false → 0 ≡ mass_of (Below x)
+unfolding mass_of half_amount
+none_below x h = ap mass_in (refuses (Amount.mass (half_mass x)) h)
 
 -- ---- its amount, by whether it is in range and there
-pub none-out-of-range : (r : Reading) → isInRange r ≡ false → refused 7 ≡ amountOf r
-unfolding valueAmount halfAmount
+pub none-out-of-range : (r : Reading) → is_in_range r ≡ false → refused 7 ≡ amount_of r
+unfolding value_amount half_amount
 none-out-of-range Missing h = absurd (true≢false h)
-none-out-of-range (Measured x) h = refuses (Amount.mass (valueMass x)) h
-none-out-of-range (Below x) h = refuses (Amount.mass (halfMass x)) h
+none-out-of-range (Measured x) h = refuses (Amount.mass (value_mass x)) h
+none-out-of-range (Below x) h = refuses (Amount.mass (half_mass x)) h
 
-pub none-missing : (r : Reading) → present r ≡ false → given Amount.missing ≡ amountOf r
+pub none-missing : (r : Reading) → present r ≡ false → given Amount.missing ≡ amount_of r
 none-missing Missing h = refl
 none-missing (Measured x) h = absurd (true≢false h)
 none-missing (Below x) h = absurd (true≢false h)
 
-pub mass-there : (r : Reading) → InRange r → present r ≡ true → given (Amount.mass (massOf r)) ≡ amountOf r
-unfolding massOf valueAmount halfAmount
+pub mass-there : (r : Reading) → InRange r → present r ≡ true → given (Amount.mass (mass_of r)) ≡ amount_of r
+unfolding mass_of value_amount half_amount
 mass-there Missing h t = absurd (true≢false (sym t))
 mass-there (Measured x) h t = rw h
 mass-there (Below x) h t = rw h
 
 -- ---- a reading with its amounts
-pub with-amounts : {r q : Reading} {m l : ℕ} → q ≡ r → m ≡ massOf q → l ≡ limitOf q → record { reading = q; mass = record { 0 = m }; limit = record { 0 = l } } ≡ analyteOf r
+pub with-amounts : {r q : Reading} {m l : ℕ} → q ≡ r → m ≡ mass_of q → l ≡ limit_of q → record { reading = q; mass = record { 0 = m }; limit = record { 0 = l } } ≡ analyte_of r
 with-amounts is e f = rw (sym is, e, f)
 
 -- one that was read
-pub read-with : (o : Outcome Reading) (r : Reading) (a : Analyte) → given r ≡ o → a ≡ analyteOf r → given a ≡ withAmount o
-unfolding withAmount
+pub read-with : (o : Outcome Reading) (r : Reading) (a : Analyte) → given r ≡ o → a ≡ analyte_of r → given a ≡ with_amount o
+unfolding with_amount
 read-with o r a e f = rw (sym e, f)
 
 -- ---- what an answer tells
-pub was-analyte : (o : Outcome Reading) (a : Analyte) → given a ≡ withAmount o → (o ≡ given a.reading) × (a ≡ analyteOf a.reading)
-unfolding withAmount
-was-analyte (given r) a e = let z : a ≡ analyteOf r = cc in (ap given (sym (ap (λ (b : Analyte). b.reading) z)), z ∙ ap analyteOf (sym (ap (λ (b : Analyte). b.reading) z)))
+pub was-analyte : (o : Outcome Reading) (a : Analyte) → given a ≡ with_amount o → (o ≡ given a.reading) × (a ≡ analyte_of a.reading)
+unfolding with_amount
+was-analyte (given r) a e = let z : a ≡ analyte_of r = cc in (ap given (sym (ap (λ (b : Analyte). b.reading) z)), z ∙ ap analyte_of (sym (ap (λ (b : Analyte). b.reading) z)))
 was-analyte (refused n) a e = never (sym e)
 
-pub was-none : (o : Outcome Reading) (n : ℕ) → refused n ≡ withAmount o → o ≡ refused n
-unfolding withAmount
+pub was-none : (o : Outcome Reading) (n : ℕ) → refused n ≡ with_amount o → o ≡ refused n
+unfolding with_amount
 was-none (given r) n e = never e
 was-none (refused k) n e = let z : n ≡ k = cc in ap refused (sym z)

@@ -11,21 +11,21 @@ use Rattle.reading.specs.declared.Reading.{Reading}
 use Rattle.reading.specs.declared.Reading.TheVariants.{Measured, Below}
 use Rattle.reading.specs.Ranges.{is_value}
 use Rattle.reading.specs.Readings.{InRange}
-use Rattle.reading.specs.Amounts.{perMilligram, valueMass}
-use Rattle.reading.specs.Analytes.{present, massOf, limitOf, analyteOf, range_of}
+use Rattle.reading.specs.Amounts.{per_milligram, value_mass}
+use Rattle.reading.specs.Analytes.{present, mass_of, limit_of, analyte_of, range_of}
 use Rattle.reading.specs.Finer.{FloatAtMost, Finer, NarrowerRange, FinerLaws}
 use Rattle.reading.proofs.RangeLaws.{limit-value}
 use Rattle.reading.proofs.NearestLaws.{nearest-rises}
 use Rattle.reading.proofs.AnalyteLaws.{measured-mass}
 
 -- a greater value has no smaller amount
-mass-rises : (x y : Float) → is_value x ≡ true → is_value y ≡ true → FloatAtMost y x → massOf (Measured y) ≤ massOf (Measured x)
-unfolding valueMass
+mass-rises : (x y : Float) → is_value x ≡ true → is_value y ≡ true → FloatAtMost y x → mass_of (Measured y) ≤ mass_of (Measured x)
+unfolding value_mass
 mass-rises x y h k l =
     rw (sym (measured-mass y k), sym (measured-mass x h))
-    (nearest-rises (perMilligram * num y) (den y) (perMilligram * num x) (den x) (den_pos y) (den_pos x) (omega (arith, mul-le-mul_left perMilligram l)))
+    (nearest-rises (per_milligram * num y) (den y) (per_milligram * num x) (den x) (den_pos y) (den_pos x) (omega (arith, mul-le-mul_left per_milligram l)))
 
-lower-limit : (x y : Float) → InRange (Below x) → InRange (Below y) → FloatAtMost y x → limitOf (Below y) ≤ limitOf (Below x)
+lower-limit : (x y : Float) → InRange (Below x) → InRange (Below y) → FloatAtMost y x → limit_of (Below y) ≤ limit_of (Below x)
 lower-limit x y h k l = mass-rises x y (limit-value x h) (limit-value y k) l
 
 at-most-limit : (x y : Float) → InRange (Below x) → InRange (Measured y) → FloatAtMost y x → Finer (Below x) (Measured y)
@@ -37,7 +37,7 @@ there old new (Finer.same _) = refl
 there old new (Finer.lower x y l) = refl
 there old new (Finer.inside x y m) = refl
 
-narrower : (old new : Reading) → InRange old → InRange new → Finer old new → NarrowerRange (range_of (analyteOf old)) (range_of (analyteOf new))
+narrower : (old new : Reading) → InRange old → InRange new → Finer old new → NarrowerRange (range_of (analyte_of old)) (range_of (analyte_of new))
 unfolding range_of
 narrower old new h k (Finer.same _) = record { least = omega arith; most = omega arith }
 narrower old new h k (Finer.lower x y l) = record { least = omega arith; most = lower-limit x y h k l }

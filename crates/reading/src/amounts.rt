@@ -1,7 +1,7 @@
 // A reading in range with its amounts, by one match on its enum.
 ghost use Rattle.std.specs.Prelude.{◌≡◌};
 ghost use Rattle.reading.specs.Readings.{InRange};
-ghost use Rattle.reading.specs.Analytes.{analyteOf};
+ghost use Rattle.reading.specs.Analytes.{analyte_of};
 
 use crate::{Analyte, Mass, Reading, rounding};
 
@@ -11,7 +11,7 @@ use crate::{Analyte, Mass, Reading, rounding};
 // limit itself, which the checks need since (vi); the range is tested before, once.
 pub fn of_reading(reading: Reading) -> Analyte
     requires { InRange reading }
-    ensures { result ≡ analyteOf reading }
+    ensures { result ≡ analyte_of reading }
 {
     match reading {
         Reading::Missing => Analyte {

@@ -7,10 +7,10 @@ mod ranges;
 mod rounding;
 
 ghost use Rattle.std.specs.Prelude.{◌≡◌};
-ghost use Rattle.reading.specs.Answers.{readingOutcome, wordsOutcome, amountOutcome, analyteOutcome};
-ghost use Rattle.reading.specs.Readings.{analysedOf, reading_of, words_of, WordLaws};
-ghost use Rattle.reading.specs.Amounts.{amountOf, AmountLaws};
-ghost use Rattle.reading.specs.Analytes.{present, analyteFrom, range_of, rangeIn, AmountRangeLaws};
+ghost use Rattle.reading.specs.Answers.{reading_outcome, words_outcome, amount_outcome, analyte_outcome};
+ghost use Rattle.reading.specs.Readings.{analysed_of, reading_of, words_of, WordLaws};
+ghost use Rattle.reading.specs.Amounts.{amount_of, AmountLaws};
+ghost use Rattle.reading.specs.Analytes.{present, analyte_from, range_of, range_in, AmountRangeLaws};
 ghost use Rattle.reading.specs.Finer.{FinerLaws};
 
 use refusal::Refusal;
@@ -92,7 +92,7 @@ pub enum AnalyteResult {
 impl Analysed {
     // Below where the value is under its limit, else measured. Both are tested always.
     pub fn to_reading(self) -> ReadingResult
-        ensures { readingOutcome result ≡ analysedOf self.value self.limit }
+        ensures { reading_outcome result ≡ analysed_of self.value self.limit }
     {
         if !ranges::is_value(self.value) {
             return ReadingResult::Refused(Refusal::Reading);
@@ -110,7 +110,7 @@ impl Analysed {
 impl Reading {
     // The reading that two words of a record hold.
     pub fn from_words(mark: u32, bits: u32) -> ReadingResult
-        ensures answer { readingOutcome result ≡ reading_of mark bits }
+        ensures answer { reading_outcome result ≡ reading_of mark bits }
         ensures laws { WordLaws }
     {
         if mark == marks::MISSING {
@@ -127,7 +127,7 @@ impl Reading {
 
     // The two words of a reading: what `from_words` reads as this reading.
     pub fn words(self) -> WordsResult
-        ensures answer { wordsOutcome result ≡ words_of self }
+        ensures answer { words_outcome result ≡ words_of self }
         ensures laws { WordLaws }
     {
         match self {
@@ -159,7 +159,7 @@ impl Reading {
     // The amount of a reading in tenths of a µg/L; of one below its limit, that of half the limit. A reading made by hand may
     // hold any float, so its range is tested first.
     pub fn amount(self) -> AmountResult
-        ensures answer { amountOutcome result ≡ amountOf self }
+        ensures answer { amount_outcome result ≡ amount_of self }
         ensures laws { AmountLaws }
     {
         if !ranges::is_in_range(self) {
@@ -178,7 +178,7 @@ impl Analyte {
     // The reading that two words of a record hold, with its amounts. What was read is in range, so that its float is
     // tested once.
     pub fn from_words(mark: u32, bits: u32) -> AnalyteResult
-        ensures { analyteOutcome result ≡ analyteFrom mark bits }
+        ensures { analyte_outcome result ≡ analyte_from mark bits }
     {
         match Reading::from_words(mark, bits) {
             ReadingResult::Given(reading) => AnalyteResult::Given(amounts::of_reading(reading)),
@@ -200,7 +200,7 @@ impl Analyte {
     // A reading below its limit stands for every amount up to its limit's, any other for its one amount. The last promise is of
     // a finer reading's range (document 02 (vii)).
     pub fn range(self) -> MassRange
-        ensures answer { rangeIn result ≡ range_of self }
+        ensures answer { range_in result ≡ range_of self }
         ensures laws { AmountRangeLaws }
         ensures finer { FinerLaws }
     {

@@ -2,8 +2,8 @@
 // first six tests in a function of their own, judging a record takes a fifth longer.
 ghost use Rattle.std.specs.Prelude.{◌≡◌, length};
 ghost use Rattle.refusal.specs.Outcome.Outcome.{given};
-ghost use Rattle.record.specs.Record.{recordWords, acceptedRest};
-ghost use Rattle.record.specs.Tested.{testedOutcome, acceptedOf};
+ghost use Rattle.record.specs.Record.{record_words, accepted_rest};
+ghost use Rattle.record.specs.Tested.{tested_outcome, accepted_of};
 
 use crate::{
     ALKALINITY, CONDUCTIVITY, KIND, MOST_ALKALINITY, MOST_CONDUCTIVITY, MOST_KIND, PH, Tested,
@@ -14,7 +14,7 @@ use refusal::Refusal;
 
 // Tests 1 to 4, and then the rest.
 pub fn of_words(words: &[u32]) -> Tested
-    ensures { testedOutcome result ≡ acceptedOf words.now }
+    ensures { tested_outcome result ≡ accepted_of words.now }
 {
     if words.len() != WORDS {
         return Tested::Refused(Refusal::RecordLength);
@@ -33,8 +33,8 @@ pub fn of_words(words: &[u32]) -> Tested
 
 // Tests 5 to 7.
 fn rest(words: &[u32], floor: u64) -> Tested
-    requires { length words.now ≡ recordWords }
-    ensures { testedOutcome result ≡ acceptedRest words.now (given floor) }
+    requires { length words.now ≡ record_words }
+    ensures { tested_outcome result ≡ accepted_rest words.now (given floor) }
 {
     if !tests::in_range(1, MOST_CONDUCTIVITY, words[CONDUCTIVITY]) {
         return Tested::Refused(Refusal::Conductivity);

@@ -1,6 +1,6 @@
 // A sample's number (document 02 (ii)): one value, put together from its two words and taken apart into them here alone.
 ghost use Rattle.std.specs.Prelude.{◌≡◌};
-ghost use Rattle.record.specs.Number.{wholeNumber, highPart, lowPart, NumberLaws};
+ghost use Rattle.record.specs.Number.{whole_number, high_part, low_part, NumberLaws};
 
 // How many values a word of 32 bits has.
 const WORD_VALUES: u64 = 4294967296;
@@ -15,7 +15,7 @@ pub struct Parts {
 // The number that two words make, any two: none is too great for 64 bits. The second promise says that no other two words
 // make it.
 pub fn whole(high: u32, low: u32) -> u64
-    ensures answer { result ≡ wholeNumber high low }
+    ensures answer { result ≡ whole_number high low }
     ensures laws { NumberLaws }
 {
     high as u64 * WORD_VALUES + low as u64
@@ -23,7 +23,7 @@ pub fn whole(high: u32, low: u32) -> u64
 
 // The two words that make a number.
 pub fn parts_of(number: u64) -> Parts
-    ensures { (result.high ≡ highPart number) × (result.low ≡ lowPart number) }
+    ensures { (result.high ≡ high_part number) × (result.low ≡ low_part number) }
 {
     Parts {
         high: (number / WORD_VALUES) as u32,

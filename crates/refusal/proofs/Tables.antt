@@ -10,7 +10,7 @@ use lib.Dec.{T}
 use lib.Ieee.Fits.{and_l, and_r}
 use lib.ListN.{length, take, drop, get_or}
 use lib.Seq.{drop-cons}
-use Rattle.refusal.specs.Tables.{valuesFrom}
+use Rattle.refusal.specs.Tables.{values_from}
 
 -- ---- the rule
 -- the test f passes at each entry of the list and its place, counted from i
@@ -40,7 +40,7 @@ joined f (x ∷ xs) ys i t u =
 
 -- ---- a row
 -- the entry i places on in a row that begins at p
-pub row-entry : (f : ℕ → ℕ) (p n i : ℕ) → i < n → get_or (valuesFrom f p n) i 0 ≡ f (p + i)
+pub row-entry : (f : ℕ → ℕ) (p n i : ℕ) → i < n → get_or (values_from f p n) i 0 ≡ f (p + i)
 row-entry f p zero i h = absurd (not-suc-le-zero h)
 row-entry f p (suc n) zero h = rw (add-zero p)
 row-entry f p (suc n) (suc i) h = rw (add-suc p i, ← suc-add p i) (row-entry f (suc p) n i (le_of_suc-le-suc h))
@@ -48,14 +48,14 @@ row-entry f p (suc n) (suc i) h = rw (add-suc p i, ← suc-add p i) (row-entry f
 -- the list xs has the values of f from p on
 module _ (f : ℕ → ℕ) (p : ℕ) (xs : List ℕ) (entry : (k : ℕ) → k < length xs → f (p + k) ≡ get_or xs k 0) where
   -- n of its entries, from a place on
-  part : (n k : ℕ) → k + n ≤ length xs → take n (drop k xs) ≡ valuesFrom f (p + k) n
+  part : (n k : ℕ) → k + n ≤ length xs → take n (drop k xs) ≡ values_from f (p + k) n
   part zero k u = refl
   part (suc n) k u =
       rw (drop-cons xs k 0 (omega arith), ← entry k (omega arith))
       (ap (λ (r : List ℕ). f (p + k) ∷ r) (rw (add-suc p k) at (part n (suc k) (omega arith))))
 
   -- so that of n entries at place n k is row m, where m is k
-  pub row_at : (n : ℕ) {m k : ℕ} → m ≡ k → n * m + n ≤ length xs → take n (drop (n * k) xs) ≡ valuesFrom f (p + n * m) n
+  pub row_at : (n : ℕ) {m k : ℕ} → m ≡ k → n * m + n ≤ length xs → take n (drop (n * k) xs) ≡ values_from f (p + n * m) n
   row_at n {m} {k} e h = rw (sym e) (part n (n * m) h)
 
 -- ---- the match

@@ -2,6 +2,6 @@
 use Rattle.std.specs.Prelude.{List, [], ◌∷◌, ℕ, zero, suc}
 
 -- n values of f, one after the other, from p on
-abbrev pub valuesFrom : (ℕ → ℕ) → ℕ → ℕ → List ℕ
-valuesFrom f p zero = []
-valuesFrom f p (suc n) = f p ∷ valuesFrom f (suc p) n
+abbrev pub values_from : (ℕ → ℕ) → ℕ → ℕ → List ℕ
+values_from f p zero = []
+values_from f p (suc n) = f p ∷ values_from f (suc p) n

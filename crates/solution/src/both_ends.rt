@@ -1,8 +1,8 @@
 // The sums of a record at both ends of what its amounts and its hydrogen leave open.
 ghost use Rattle.std.specs.Prelude.{◌≡◌, ◌+◌, ◌^◌, ◌<◌};
-ghost use Rattle.record.specs.Tested.{fieldsIn};
-ghost use Rattle.solution.specs.Solutions.{gap, sumRangesIn};
-ghost use Rattle.solution.specs.ByValue.{sumRangesHeld, noSumRanges};
+ghost use Rattle.record.specs.Tested.{fields_in};
+ghost use Rattle.solution.specs.Solutions.{gap, sum_ranges_in};
+ghost use Rattle.solution.specs.ByValue.{sum_ranges_held, no_sum_ranges};
 ghost use Rattle.solution.specs.Steps.{Ranged};
 
 use crate::{Charge, Solution, ions, one_end};
@@ -10,8 +10,8 @@ use record::TestedRecord;
 
 // Of fields within their ranges: hydrogen is its floor at a whole pH, else up to 1 u above it.
 pub fn of_ranged(own: TestedRecord, floor: u64) -> Solution
-    requires { Ranged (fieldsIn own) (floor + 1) }
-    ensures { sumRangesIn result ≡ sumRangesHeld (fieldsIn own) floor }
+    requires { Ranged (fields_in own) (floor + 1) }
+    ensures { sum_ranges_in result ≡ sum_ranges_held (fields_in own) floor }
 {
     let whole = hydrogen::is_whole(own.ph);
     let analytes = own.analytes;
@@ -28,7 +28,7 @@ pub fn of_ranged(own: TestedRecord, floor: u64) -> Solution
 
 // No sums: no ion is known.
 pub fn none() -> Solution
-    ensures { sumRangesIn result ≡ noSumRanges }
+    ensures { sum_ranges_in result ≡ no_sum_ranges }
 {
     Solution {
         known: false,

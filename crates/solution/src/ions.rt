@@ -1,10 +1,10 @@
 // The table of the ions, and the sums of a record's eight. Only the table's columns turn a mass into a charge and a charge into
 // a conductivity or a strength, and only like is added to like.
 ghost use Rattle.std.specs.Prelude.{◌≡◌, ◌+◌, ◌*◌, ◌^◌, ◌≤◌, ◌<◌};
-ghost use Rattle.reading.specs.Amounts.{mostMass};
+ghost use Rattle.reading.specs.Amounts.{most_mass};
 ghost use Rattle.record.specs.Record.{ions, readings, all_below};
-ghost use Rattle.solution.specs.Ions.{chargeUnit, strengthAdded, sum};
-ghost use Rattle.solution.specs.ByValue.{thereAt, amountAt};
+ghost use Rattle.solution.specs.Ions.{charge_unit, strength_added, sum};
+ghost use Rattle.solution.specs.ByValue.{there_at, amount_at};
 ghost use Rattle.solution.specs.Steps.{Small, RowOf, Adds, IonSums, RatioOf};
 
 use crate::{Charge, Conductivity, SodiumChloride, amounts, strength};
@@ -86,8 +86,8 @@ impl Conductivity {
 
 // The charge of an amount, by the entry of a column.
 fn charge(factor: u64, m: Mass) -> Charge
-    requires { chargeUnit * (factor * m.0) < 2 ^ 64 }
-    ensures { result.0 ≡ chargeUnit * (factor * m.0) }
+    requires { charge_unit * (factor * m.0) < 2 ^ 64 }
+    ensures { result.0 ≡ charge_unit * (factor * m.0) }
 {
     Charge(CHARGE_UNIT * (factor * m.0))
 }
@@ -107,7 +107,7 @@ fn row_at(ion: usize) -> Row
 
 // By its row.
 fn of_ion(ion: usize, m: Mass) -> Ion
-    requires { (ion < ions) × (m.0 ≤ mostMass) }
+    requires { (ion < ions) × (m.0 ≤ most_mass) }
     ensures { Adds ion m.0 result }
 {
     let row = row_at(ion);
@@ -151,7 +151,7 @@ pub fn sums_of(analytes: [Analyte; record::READINGS], greatest: bool) -> Eight
 // The strength of the eight at one end. A loop of its own: with a fourth sum the compiler no longer unrolls the one above.
 pub fn strength_of(analytes: [Analyte; record::READINGS], greatest: bool) -> IonicStrength
     requires { Small analytes }
-    ensures { result.0 ≡ sum (λ i. strengthAdded i * amountAt greatest analytes i) readings }
+    ensures { result.0 ≡ sum (λ i. strength_added i * amount_at greatest analytes i) readings }
 {
     let mut strength = IonicStrength(0);
     let mut i: usize = 0;
@@ -166,7 +166,7 @@ pub fn strength_of(analytes: [Analyte; record::READINGS], greatest: bool) -> Ion
 
 // Whether none of the eight is missing.
 pub fn are_present(analytes: [Analyte; record::READINGS]) -> bool
-    ensures { result ≡ all_below (thereAt analytes) ions }
+    ensures { result ≡ all_below (there_at analytes) ions }
 {
     let mut known = true;
     let mut i: usize = 0;

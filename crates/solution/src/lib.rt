@@ -8,9 +8,9 @@ mod ranges;
 mod strength;
 
 ghost use Rattle.std.specs.Prelude.{◌≡◌};
-ghost use Rattle.record.specs.Tested.{fieldsIn};
-ghost use Rattle.solution.specs.Solutions.{sumRangesIn};
-ghost use Rattle.solution.specs.ByValue.{sumRangesBy};
+ghost use Rattle.record.specs.Tested.{fields_in};
+ghost use Rattle.solution.specs.Solutions.{sum_ranges_in};
+ghost use Rattle.solution.specs.ByValue.{sum_ranges_by};
 
 use activity::IonicStrength;
 use reading::Mass;
@@ -65,7 +65,7 @@ pub struct Solution {
 // The sums of a record, by its fields and the floor of hydrogen at its pH. Fields that no accepted record has give no sums: so
 // none can be too large for its type.
 pub fn of_fields(own: TestedRecord, floor: u64) -> Solution
-    ensures { sumRangesIn result ≡ sumRangesBy (fieldsIn own) floor }
+    ensures { sum_ranges_in result ≡ sum_ranges_by (fields_in own) floor }
 {
     if !ranges::hold(own, floor) {
         return both_ends::none();

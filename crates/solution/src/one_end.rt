@@ -1,10 +1,10 @@
 // The sums of a record at one end: every amount at its greatest, or every one at its least.
 ghost use Rattle.std.specs.Prelude.{◌≡◌, ◌+◌, ◌*◌, ◌^◌, ◌≤◌, ◌<◌};
-ghost use Rattle.record.specs.Record.{mostConductivity};
-ghost use Rattle.record.specs.Tested.{fieldsIn};
-ghost use Rattle.solution.specs.Ions.{hydrogenConductance, hydrogenChargeNumber, alkalinityConductance, alkalinityChargeNumber, alkalinityCharge};
-ghost use Rattle.solution.specs.Solutions.{measuredOf, sumsIn};
-ghost use Rattle.solution.specs.ByValue.{sumsHeld, noSums};
+ghost use Rattle.record.specs.Record.{most_conductivity};
+ghost use Rattle.record.specs.Tested.{fields_in};
+ghost use Rattle.solution.specs.Ions.{hydrogen_conductance, hydrogen_charge_number, alkalinity_conductance, alkalinity_charge_number, alkalinity_charge};
+ghost use Rattle.solution.specs.Solutions.{measured_of, sums_in};
+ghost use Rattle.solution.specs.ByValue.{sums_held, no_sums};
 ghost use Rattle.solution.specs.Steps.{Small, Ranged, NitrogenOf};
 
 use crate::{Charge, Conductivity, Nitrogen, SodiumChloride, Sums, amounts, ions, strength};
@@ -19,8 +19,8 @@ const MEASURED_UNIT: u64 = 1000000000000;
 
 // Of fields within their ranges, with that hydrogen.
 pub fn sums(own: TestedRecord, greatest: bool, hydrogen: Charge) -> Sums
-    requires { Ranged (fieldsIn own) hydrogen.0 }
-    ensures { sumsIn result ≡ sumsHeld (fieldsIn own) greatest hydrogen.0 }
+    requires { Ranged (fields_in own) hydrogen.0 }
+    ensures { sums_in result ≡ sums_held (fields_in own) greatest hydrogen.0 }
 {
     let analytes = own.analytes;
     let ratio = ions::sodium_chloride(analytes, greatest);
@@ -46,7 +46,7 @@ pub fn sums(own: TestedRecord, greatest: bool, hydrogen: Charge) -> Sums
 
 // No sums: each is 0.
 pub fn no_sums() -> Sums
-    ensures { sumsIn result ≡ noSums }
+    ensures { sums_in result ≡ no_sums }
 {
     Sums {
         cations: Charge(0),
@@ -66,22 +66,22 @@ pub fn no_sums() -> Sums
 }
 
 fn alkalinity_charge(tenths: u32) -> Charge
-    ensures { result.0 ≡ alkalinityCharge tenths }
+    ensures { result.0 ≡ alkalinity_charge tenths }
 {
     Charge((tenths as u64) * ALKALINITY_UNIT)
 }
 
 fn measured_conductivity(tenths: u32) -> Conductivity
-    requires { tenths ≤ mostConductivity }
-    ensures { result.0 ≡ measuredOf tenths }
+    requires { tenths ≤ most_conductivity }
+    ensures { result.0 ≡ measured_of tenths }
 {
     Conductivity((tenths as u64) * MEASURED_UNIT)
 }
 
 // What hydrogen, alkalinity and the eight ions conduct.
 fn calculated(hydrogen: Charge, alkalinity: Charge, eight: Conductivity) -> Conductivity
-    requires { hydrogenConductance * hydrogen.0 + (alkalinityConductance * alkalinity.0 + eight.0) < 2 ^ 64 }
-    ensures { result.0 ≡ hydrogenConductance * hydrogen.0 + (alkalinityConductance * alkalinity.0 + eight.0) }
+    requires { hydrogen_conductance * hydrogen.0 + (alkalinity_conductance * alkalinity.0 + eight.0) < 2 ^ 64 }
+    ensures { result.0 ≡ hydrogen_conductance * hydrogen.0 + (alkalinity_conductance * alkalinity.0 + eight.0) }
 {
     let others = alkalinity
         .conducting(ions::ALKALINITY_CONDUCTANCE)
@@ -91,8 +91,8 @@ fn calculated(hydrogen: Charge, alkalinity: Charge, eight: Conductivity) -> Cond
 
 // The strength of hydrogen, alkalinity and the eight ions.
 fn strength_of(hydrogen: Charge, alkalinity: Charge, eight: IonicStrength) -> IonicStrength
-    requires { hydrogenChargeNumber * hydrogen.0 + (alkalinityChargeNumber * alkalinity.0 + eight.0) < 2 ^ 64 }
-    ensures { result.0 ≡ hydrogenChargeNumber * hydrogen.0 + (alkalinityChargeNumber * alkalinity.0 + eight.0) }
+    requires { hydrogen_charge_number * hydrogen.0 + (alkalinity_charge_number * alkalinity.0 + eight.0) < 2 ^ 64 }
+    ensures { result.0 ≡ hydrogen_charge_number * hydrogen.0 + (alkalinity_charge_number * alkalinity.0 + eight.0) }
 {
     let others = strength::plus(
         strength::of_charge(alkalinity, ions::ALKALINITY_CHARGE_NUMBER),

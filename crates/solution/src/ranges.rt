@@ -1,14 +1,14 @@
 // Whether fields are within the ranges of a record.
 ghost use Rattle.std.specs.Prelude.{◌≡◌};
-ghost use Rattle.record.specs.Tested.{fieldsIn};
-ghost use Rattle.solution.specs.ByValue.{areSmall, inRanges};
+ghost use Rattle.record.specs.Tested.{fields_in};
+ghost use Rattle.solution.specs.ByValue.{are_small, in_ranges};
 
 use hydrogen::MOST_FLOOR;
 use reading::{Analyte, MOST_MASS};
 use record::{MOST_ALKALINITY, MOST_CONDUCTIVITY, READINGS, TestedRecord};
 
 pub fn hold(own: TestedRecord, floor: u64) -> bool
-    ensures { result ≡ inRanges (fieldsIn own) floor }
+    ensures { result ≡ in_ranges (fields_in own) floor }
 {
     let analytes = own.analytes;
     (floor <= MOST_FLOOR)
@@ -18,7 +18,7 @@ pub fn hold(own: TestedRecord, floor: u64) -> bool
 
 // The loop has no way out: of a record that was tested, all of them are.
 fn are_small(analytes: [Analyte; READINGS]) -> bool
-    ensures { result ≡ areSmall analytes }
+    ensures { result ≡ are_small analytes }
 {
     let mut small = true;
     let mut i: usize = 0;

@@ -6,7 +6,7 @@ use native.Mathlib.Omega.{arith}
 use lib.ListN.{length, get_or, set, length-set, length-take}
 use lib.Seq.{paste, paste-zero, get_or-take}
 use Rattle.refusal.proofs.PlaceLaws.{paste_more, paste_all}
-use Rattle.words.specs.Placing.{within, placedWithin}
+use Rattle.words.specs.Placing.{within, placed_within}
 
 -- the slice after so many turns, which was old before
 pub record Put (old : List ℕ) (at : ℕ) (words : List ℕ) (i : ℕ) (slice : List ℕ) : Type 0 where
@@ -30,5 +30,5 @@ module _ (old : List ℕ) (at : ℕ) (words : List ℕ) where
           holds = rw (put.holds, there, same) (paste_more old (within old at words) at i (omega (arith, count)) (omega (arith, count)));
         }
 
-    pub put_all : i ≡ min (length words) (length old - at) → slice ≡ placedWithin old at words
+    pub put_all : i ≡ min (length words) (length old - at) → slice ≡ placed_within old at words
     put_all e = let all : i ≡ length (within old at words) = omega (arith, count) in put.holds ∙ rw all (paste_all old (within old at words) at)

@@ -16,7 +16,7 @@ use Rattle.refusal.specs.declared.Refusal.TheVariants as refusal
 use Rattle.refusal.proofs.Rows.{row-given}
 use Rattle.refusal.proofs.Outcomes.{never}
 use Rattle.words.specs.FromFront.{Read, taken, then, many, section}
-use Rattle.words.specs.Sections.{allWords, sectionWords}
+use Rattle.words.specs.Sections.{all_words, section_words}
 use Rattle.words.specs.Each.{EachAfter}
 
 -- ---- a part and what follows
@@ -37,8 +37,8 @@ Stands {A} P words part = (before : List A) (s : List ℕ) (a : A) (rest : List 
 
 module _ {A : Type 0} (P : List A → A → Type 0) (words : A → List ℕ) (part : List A → List ℕ → Read A) (stands : Stands P words part) where
   many-taken : (n : ℕ) (before : List A) (s : List ℕ) (all : List A) (rest : List ℕ) → many part n before s ≡ taken all rest
-      → (new : List A) × (all ≡ before ++ new) × (length new ≡ n) × EachAfter P before new × (s ≡ allWords words new ++ rest)
-  unfolding many allWords
+      → (new : List A) × (all ≡ before ++ new) × (length new ≡ n) × EachAfter P before new × (s ≡ all_words words new ++ rest)
+  unfolding many all_words
   many-taken zero before s all rest e =
       let t = taken-same e in
       ([], sym t.0 ∙ sym (append-nil before), refl, tt, t.1)
@@ -51,11 +51,11 @@ module _ {A : Type 0} (P : List A → A → Type 0) (words : A → List ℕ) (pa
         m.1 ∙ append_assoc before (a ∷ []) m.0,
         ap suc m.2,
         (here.0, m.3),
-        here.1 ∙ ap (λ (l : List ℕ). words a ++ l) m.4 ∙ sym (append_assoc (words a) (allWords words m.0) rest),
+        here.1 ∙ ap (λ (l : List ℕ). words a ++ l) m.4 ∙ sym (append_assoc (words a) (all_words words m.0) rest),
       )
 
   pub section-taken : (most : ℕ) (s : List ℕ) (all : List A) (rest : List ℕ) → section most part s ≡ taken all rest
-      → (length all ≤ most) × EachAfter P [] all × (s ≡ sectionWords words all ++ rest)
+      → (length all ≤ most) × EachAfter P [] all × (s ≡ section_words words all ++ rest)
   unfolding section
   section-taken most s all rest e =
       let tests : List (Bool × ℕ) = (leb 1 (length s), number_of refusal.BatchLength) ∷ (leb (get_or s 0 0) most, number_of refusal.Count) ∷ [] in
@@ -67,5 +67,5 @@ module _ {A : Type 0} (P : List A → A → Type 0) (words : A → List ℕ) (pa
         rw m.1 m.3,
         drop-cons s 0 0 (leb-true _ _ p.0.0)
             ∙ ap (λ (n : ℕ). n ∷ drop 1 s) (sym size)
-            ∙ ap (λ (l : List ℕ). length all ∷ l) (m.4 ∙ ap (λ (l : List A). allWords words l ++ rest) (sym m.1)),
+            ∙ ap (λ (l : List ℕ). length all ∷ l) (m.4 ∙ ap (λ (l : List A). all_words words l ++ rest) (sym m.1)),
       )

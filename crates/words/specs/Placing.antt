@@ -7,5 +7,5 @@ abbrev pub within : List ℕ → ℕ → List ℕ → List ℕ
 within old at words = take (length old - at) words
 
 -- the slice after it
-abbrev pub placedWithin : List ℕ → ℕ → List ℕ → List ℕ
-placedWithin old at words = placed old at (within old at words)
+abbrev pub placed_within : List ℕ → ℕ → List ℕ → List ℕ
+placed_within old at words = placed old at (within old at words)

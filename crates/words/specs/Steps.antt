@@ -4,12 +4,12 @@ use Rattle.std.specs.Prelude.{cond, List, ℕ, ◌+◌, ◌*◌, ◌/◌, ◌%�
 use Rattle.words.specs.Words.{word_bytes}
 
 -- the two bytes there, least first
-abbrev pub halfAt : List ℕ → ℕ → ℕ
-halfAt b at = get_or b at 0 + 256 * get_or b (at + 1) 0
+abbrev pub half_at : List ℕ → ℕ → ℕ
+half_at b at = get_or b at 0 + 256 * get_or b (at + 1) 0
 
 -- the word that begins there
 abbrev pub word_at : List ℕ → ℕ → ℕ
-word_at b at = halfAt b at + 65_536 * halfAt b (at + 2)
+word_at b at = half_at b at + 65_536 * half_at b (at + 2)
 
 -- the byte at a place of a word, 0 to 3
 unfoldable pub byte_of : ℕ → ℕ → ℕ

@@ -4,7 +4,7 @@ mod packed;
 
 ghost use Rattle.std.specs.Prelude.{◌≡◌, ◌-◌, ◌≤◌, min, length};
 ghost use Rattle.words.specs.Words.{words_of, bytes_of, BytesHoldWords};
-ghost use Rattle.words.specs.Placing.{within, placedWithin};
+ghost use Rattle.words.specs.Placing.{within, placed_within};
 
 // The bytes of a word.
 pub const WORD_BYTES: usize = 4;
@@ -13,7 +13,7 @@ pub const WORD_BYTES: usize = 4;
 // follows from the other promises, and is said for the caller who lends that part of it.
 pub fn unpack(bytes: &[u8], words: &mut [u32]) -> usize
     ensures answer { result ≡ length (within words.old 0 (words_of bytes.now)) }
-    ensures lent { words.new ≡ placedWithin words.old 0 (words_of bytes.now) }
+    ensures lent { words.new ≡ placed_within words.old 0 (words_of bytes.now) }
     ensures inside { result ≤ length words.new }
 {
     let count = lesser(bytes.len() / WORD_BYTES, words.len());
@@ -29,7 +29,7 @@ pub fn unpack(bytes: &[u8], words: &mut [u32]) -> usize
 // read from their bytes again.
 pub fn pack(words: &[u32], bytes: &mut [u8]) -> usize
     ensures answer { result ≡ length (within bytes.old 0 (bytes_of words.now)) }
-    ensures lent { bytes.new ≡ placedWithin bytes.old 0 (bytes_of words.now) }
+    ensures lent { bytes.new ≡ placed_within bytes.old 0 (bytes_of words.now) }
     ensures back { BytesHoldWords }
 {
     let count = lesser(WORD_BYTES * words.len(), bytes.len());
@@ -43,7 +43,7 @@ pub fn pack(words: &[u32], bytes: &mut [u8]) -> usize
 
 // Puts words into a slice, from a place on.
 pub fn place(words: &[u32], into: &mut [u32], at: usize)
-    ensures lent { into.new ≡ placedWithin into.old at words.now }
+    ensures lent { into.new ≡ placed_within into.old at words.now }
 {
     let count = lesser(words.len(), room(into.len(), at));
     let mut i: usize = 0;

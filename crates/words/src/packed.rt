@@ -1,7 +1,7 @@
 // Words packed in bytes, least byte first.
 ghost use Rattle.std.specs.Prelude.{◌≡◌, ◌+◌, ◌*◌, ◌≤◌, ◌<◌, length};
 ghost use Rattle.words.specs.Words.{word_bytes};
-ghost use Rattle.words.specs.Steps.{halfAt, word_at, byte_of, byte_at};
+ghost use Rattle.words.specs.Steps.{half_at, word_at, byte_of, byte_at};
 
 use crate::WORD_BYTES;
 
@@ -40,7 +40,7 @@ fn byte_of(word: u32, place: usize) -> u8
 // Two bytes of it.
 fn half(bytes: &[u8], at: usize) -> u32
     requires { at + 2 ≤ length bytes.now }
-    ensures { (result ≡ halfAt bytes.now at) × (result < 65536) }
+    ensures { (result ≡ half_at bytes.now at) × (result < 65536) }
 {
     wide(bytes[at]) + 256 * wide(bytes[at + 1])
 }

@@ -1,7 +1,7 @@
 -- What the call below wrote and returned, and the code of that.
 use lib.ListN.{length}
 use Rattle.refusal.specs.Lent.{fitting}
-use Rattle.batch.specs.Rows.{batchAnswer}
+use Rattle.batch.specs.Rows.{batch_answer}
 use Rattle.analyser.proofs.CallLaws.{written-code}
 use borrow.Author.Rules.{rules}
 use Rattle.analyser.proofs.peltquarry_batch.Statement.{statement}
@@ -11,7 +11,7 @@ returns : tie.Need-returns
 returns c =
     let wrote = c.before.before.before in
     let a = wrote.before.before.before.before.args in
-    let o = fitting (length a.answer.now) (batchAnswer a.words.now) in
+    let o = fitting (length a.answer.now) (batch_answer a.words.now) in
     (written-code o c.of-written.ensures wrote.judge-batch.ensures.0, wrote.judge-batch.ensures.1.0)
 
 pub peltquarry-batch-spec : {M : Type 1} → statement M

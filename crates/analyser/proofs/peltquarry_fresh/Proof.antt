@@ -1,6 +1,6 @@
 -- The words of the fresh docket are lent.
 use borrow.Author.Rules.{rules}
-use Rattle.docket.specs.Terms.{docketOf}
+use Rattle.docket.specs.Terms.{docket_of}
 use Rattle.analyser.proofs.OfferLaws.{lent-laws}
 use Rattle.analyser.proofs.peltquarry_fresh.Statement.{statement}
 use Rattle.analyser.proofs.peltquarry_fresh.Tie as tie
@@ -10,7 +10,7 @@ returns c =
     let called = c.before.before in
     let made = called.before.before in (
       record {
-        docket = docketOf made.fresh.result;
+        docket = docket_of made.fresh.result;
         fresh = made.fresh.ensures.0;
         whole = called.lend.ensures.1.1;
         returned = called.lend.ensures.0;

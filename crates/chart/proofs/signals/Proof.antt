@@ -4,8 +4,8 @@ use mathlib.Core.List.{◌++◌}
 use native.Mathlib.Omega.{arith}
 use Prim.Native.Nat.{◌-◌, ◌≤◌}
 use lib.ListN.{length, drop, length-set}
-use Rattle.chart.specs.Charts.{firstWords}
-use Rattle.chart.specs.Steps.{termsOf}
+use Rattle.chart.specs.Charts.{first_words}
+use Rattle.chart.specs.Steps.{terms_of}
 use Rattle.refusal.proofs.LentLaws.{refused-before}
 use Rattle.chart.proofs.ValueLaws.{accepted-valid}
 use Rattle.chart.proofs.SpreadLaws.{never-negative}
@@ -17,7 +17,7 @@ use Rattle.chart.proofs.signals.Tie as tie
 
 abbrev invariant-loop : tie.invariant-loop
 invariant-loop setup later out₀ prepared i₀ out i =
-    (i ≤ length later) × (length out ≡ length out₀) × (out ≡ firstWords (termsOf prepared) later i ++ drop i out₀)
+    (i ≤ length later) × (length out ≡ length out₀) × (out ≡ first_words (terms_of prepared) later i ++ drop i out₀)
 
 abbrev decreases-loop : tie.decreases-loop
 decreases-loop setup later out₀ prepared i₀ out i = length later - i
@@ -43,7 +43,7 @@ of-values-requires c κs =
     setup-in-room valid
 
 loop-holds : tie.Need-loop-init invariant-loop decreases-loop
-loop-holds c = (search rules, refl, none_written (termsOf c.of_values.result) _ _)
+loop-holds c = (search rules, refl, none_written (terms_of c.of_values.result) _ _)
 
 word-requires : tie.Need-word-requires invariant-loop decreases-loop
 word-requires c κs =

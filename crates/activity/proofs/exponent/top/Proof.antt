@@ -4,16 +4,16 @@ use native.Mathlib.Nat.{mul-le-mul}
 use native.Mathlib.Omega.{arith}
 use borrow.Author.Rules.{rules}
 use Rattle.activity.specs.Exponent.{top, million}
-use Rattle.activity.specs.Steps.{greatestRoot}
+use Rattle.activity.specs.Steps.{greatest_root}
 use Rattle.activity.proofs.Powers.{square_le}
 use Rattle.activity.proofs.Grows.{over_zero}
 use Rattle.activity.proofs.exponent.top.Statement.{statement}
 use Rattle.activity.proofs.exponent.top.Tie as tie
 
 -- the greatest of the products is that at the greatest root
-cube-le : {k : ℕ} → k ≤ greatestRoot → k * k * (k + million) ≤ greatestRoot * greatestRoot * (greatestRoot + million)
+cube-le : {k : ℕ} → k ≤ greatest_root → k * k * (k + million) ≤ greatest_root * greatest_root * (greatest_root + million)
 cube-le {k} h =
-    mul-le-mul {n₁ = k * k} {m₁ = k + million} {n₂ = greatestRoot * greatestRoot} {m₂ = greatestRoot + million} (square_le h) (omega arith)
+    mul-le-mul {n₁ = k * k} {m₁ = k + million} {n₂ = greatest_root * greatest_root} {m₂ = greatest_root + million} (square_le h) (omega arith)
 
 square-fits : tie.Need-overflow-mul-result-2
 square-fits c = omega (arith, square_le c.requires)

@@ -2,15 +2,15 @@
 use mathlib.Core.Path.{◌≡◌}
 use Prim.Native.Nat.{ℕ, ◌+◌, ◌-◌, ◌/◌}
 use borrow.Author.Rules.{rules}
-use Rattle.activity.specs.Exponent.{upperExponent}
-use Rattle.activity.proofs.ExponentLaws.{thousandthOf, upper-exponent-is, upper-exponent-small}
+use Rattle.activity.specs.Exponent.{upper_exponent}
+use Rattle.activity.proofs.ExponentLaws.{thousandth_of, upper-exponent-is, upper-exponent-small}
 use Rattle.activity.proofs.exponent.upper.Statement.{statement}
 use Rattle.activity.proofs.exponent.upper.Tie as tie
 
 returns : tie.Need-returns
 returns c =
     let k : ℕ = c.before.args.k in
-    let is : (c.top.result + (thousandthOf k - 1)) / thousandthOf k ≡ upperExponent k =
+    let is : (c.top.result + (thousandth_of k - 1)) / thousandth_of k ≡ upper_exponent k =
     upper-exponent-is k c.top.result c.top.ensures.0 in
     (is, rw is (upper-exponent-small k c.before.requires))
 

@@ -2,14 +2,14 @@
 use Prim.Native.Nat.{ℕ, ◌+◌, ◌*◌, ◌≤◌, ◌<◌}
 use native.Mathlib.Omega.{arith}
 use borrow.Author.Rules.{rules}
-use Rattle.activity.specs.Steps.{greatestRoot}
+use Rattle.activity.specs.Steps.{greatest_root}
 use Rattle.activity.proofs.Powers.{square_le}
 use Rattle.activity.proofs.NewtonLaws.{some-above, step-above, step-below}
 use Rattle.activity.proofs.newton.whole_root.Statement.{statement}
 use Rattle.activity.proofs.newton.whole_root.Tie as tie
 
 abbrev invariant-loop : tie.invariant-loop
-invariant-loop x root₀ root = (x < (root + 1) * (root + 1)) × (root ≤ greatestRoot)
+invariant-loop x root₀ root = (x < (root + 1) * (root + 1)) × (root ≤ greatest_root)
 
 abbrev decreases-loop : tie.decreases-loop
 decreases-loop x root₀ root = root

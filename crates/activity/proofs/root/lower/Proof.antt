@@ -2,7 +2,7 @@
 use mathlib.Core.Path.{◌≡◌}
 use Prim.Native.Nat.{ℕ}
 use borrow.Author.Rules.{rules}
-use Rattle.activity.specs.Strength.{lowerRoot}
+use Rattle.activity.specs.Strength.{lower_root}
 use Rattle.activity.proofs.RootLaws.{lower-root-from, lower-root-small}
 use Rattle.activity.proofs.root.lower.Statement.{statement}
 use Rattle.activity.proofs.root.lower.Tie as tie
@@ -10,7 +10,7 @@ use Rattle.activity.proofs.root.lower.Tie as tie
 returns : tie.Need-returns
 returns c =
     let strength : ℕ = c.before.args.strength in
-    let is : c.whole-root.result ≡ lowerRoot strength =
+    let is : c.whole-root.result ≡ lower_root strength =
     lower-root-from strength c.whole-root.result c.whole-root.ensures.0 c.whole-root.ensures.1 in
     (is, rw is (lower-root-small strength c.before.requires))
 

@@ -3,14 +3,14 @@ use mathlib.Core.Path.{◌≡◌, sym, ◌∙◌}
 use Prim.Native.Nat.{ℕ, ◌+◌, ◌≤◌, ◌<◌}
 use borrow.Author.Rules.{rules}
 use borrow.Author.Tests.{ltb-true, ltb-false, not-true}
-use Rattle.activity.specs.Strength.{square, strongest, upperRoot}
-use Rattle.activity.specs.Steps.{greatestRoot}
+use Rattle.activity.specs.Strength.{square, strongest, upper_root}
+use Rattle.activity.specs.Steps.{greatest_root}
 use Rattle.activity.proofs.RootLaws.{upper-root-is, upper-root-same, upper-root-next, upper-root-small}
 use Rattle.activity.proofs.root.upper.Statement.{statement}
 use Rattle.activity.proofs.root.upper.Tie as tie
 
 -- both promises, of an upper root
-both : (strength : ℕ) {k : ℕ} → strength ≤ strongest → k ≡ upperRoot strength → (k ≡ upperRoot strength) × (k ≤ greatestRoot)
+both : (strength : ℕ) {k : ℕ} → strength ≤ strongest → k ≡ upper_root strength → (k ≡ upper_root strength) × (k ≤ greatest_root)
 both strength l is = (is, rw is (upper-root-small strength l))
 
 returns : tie.Need-returns

@@ -4,8 +4,8 @@ use Prim.Native.Nat.{ℕ, ◌*◌, ◌/◌, ◌%◌}
 use native.Mathlib.Nat.{div-add-mod}
 use native.Mathlib.Omega.{arith}
 use borrow.Author.Rules.{rules}
-use Rattle.activity.specs.Floors.{floorAt}
-use Rattle.activity.specs.Steps.{rowLength}
+use Rattle.activity.specs.Floors.{floor_at}
+use Rattle.activity.specs.Steps.{row_length}
 use Rattle.refusal.proofs.Tables.{row-entry}
 use Rattle.activity.proofs.table.floor.Statement.{statement}
 use Rattle.activity.proofs.table.floor.Tie as tie
@@ -14,7 +14,7 @@ returns : tie.Need-returns
 returns c =
     let e : ℕ = c.before.args.e in
     rw c.row.ensures
-    (row-entry floorAt (rowLength * (e / rowLength)) rowLength (e % rowLength) (omega arith) ∙ ap floorAt (div-add-mod e rowLength))
+    (row-entry floor_at (row_length * (e / row_length)) row_length (e % row_length) (omega arith) ∙ ap floor_at (div-add-mod e row_length))
 
 pub floor-spec : {M : Type 1} → statement M
 floor-spec = tie.close (tie.spec (λ c. search rules) (λ c κs. search rules) (λ c. search rules) (λ c. search rules) returns)

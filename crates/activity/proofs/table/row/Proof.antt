@@ -1,20 +1,20 @@
 -- `activity::table::row` meets its contract: each arm gives its part of the list of the table's floors.
 use mathlib.Core.Path.{◌≡◌}
 use native.Mathlib.Omega.{arith}
-use Rattle.activity.proofs.FloorTable.{floors, firstHalf, secondHalf}
+use Rattle.activity.proofs.FloorTable.{floors, first_half, second_half}
 use Rattle.activity.proofs.RowLaws.{row_at}
 use Rattle.refusal.proofs.Tables.{last_arm}
 use Rattle.activity.proofs.table.row.Statement.{statement}
 use Rattle.activity.proofs.table.row.Tie as tie
 
 last : tie.Need-returns-20
-unfolding floors firstHalf secondHalf
+unfolding floors first_half second_half
 last c =
     let is : c.before.args.number ≡ 19 = last_arm 19 c.before.args.number (omega arith) c.match.rest in
     row_at is c.before.requires
 
 pub row-spec : {M : Type 1} → statement M
-unfolding floors firstHalf secondHalf
+unfolding floors first_half second_half
 row-spec =
     tie.close
     (tie.spec

@@ -3,14 +3,14 @@ use mathlib.Core.Path.{◌≡◌}
 use Prim.Native.Nat.{◌-◌, max}
 use native.Mathlib.Omega.{arith}
 use Rattle.refusal.specs.Differences.{apart}
-use Rattle.agreement.specs.Agreement.{agreesBy}
+use Rattle.agreement.specs.Agreement.{agrees_by}
 use Rattle.agreement.proofs.Tenths.{tenth}
 use borrow.Author.Rules.{rules}
 use Rattle.agreement.proofs.comparison.agrees_by.Statement.{statement}
 use Rattle.agreement.proofs.comparison.agrees_by.Tie as tie
 
 returns : tie.Need-returns
-unfolding agreesBy
+unfolding agrees_by
 returns c =
     let a = c.before.args in
     let e : apart a.x a.y ≡ a.y - a.x = omega arith in
@@ -18,7 +18,7 @@ returns c =
     rw (e, m) (tenth (a.y - a.x) a.y)
 
 returns-2 : tie.Need-returns-2
-unfolding agreesBy
+unfolding agrees_by
 returns-2 c =
     let a = c.before.args in
     let e : apart a.x a.y ≡ a.x - a.y = omega arith in

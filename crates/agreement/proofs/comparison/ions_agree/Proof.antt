@@ -6,13 +6,13 @@ use native.Mathlib.Omega.{arith}
 use Rattle.refusal.proofs.Testing.{failed, passed}
 use Rattle.record.specs.Record.{ions, all_below}
 use Rattle.record.proofs.AllBelow.{all_none, all_more, all-fails}
-use Rattle.agreement.specs.Compared.{ionsAgreeAt}
+use Rattle.agreement.specs.Compared.{ions_agree_at}
 use borrow.Author.Rules.{rules}
 use Rattle.agreement.proofs.comparison.ions_agree.Statement.{statement}
 use Rattle.agreement.proofs.comparison.ions_agree.Tie as tie
 
 abbrev invariant-loop : tie.invariant-loop
-invariant-loop a b i₀ i = (i ≤ ions) × (all_below (ionsAgreeAt a b) i ≡ true)
+invariant-loop a b i₀ i = (i ≤ ions) × (all_below (ions_agree_at a b) i ≡ true)
 
 abbrev decreases-loop : tie.decreases-loop
 decreases-loop a b i₀ i = ions - i

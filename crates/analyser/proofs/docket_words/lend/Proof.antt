@@ -3,9 +3,9 @@ use borrow.Author.Rules.{rules}
 use mathlib.Core.Path.{◌≡◌, ◌∙◌}
 use native.Mathlib.Omega.{arith}
 use lib.ListN.{length, length-set}
-use Rattle.record.specs.Record.{recordWords}
-use Rattle.docket.specs.Terms.{docketOf}
-use Rattle.analyser.specs.DocketWords.{docketWords}
+use Rattle.record.specs.Record.{record_words}
+use Rattle.docket.specs.Terms.{docket_of}
+use Rattle.analyser.specs.DocketWords.{docket_words}
 use Rattle.analyser.proofs.CallLaws.{lent-short, lent-whole}
 use Rattle.analyser.proofs.WordLaws.{put-together}
 use Rattle.analyser.proofs.docket_words.lend.Statement.{statement}
@@ -14,8 +14,8 @@ use Rattle.analyser.proofs.docket_words.lend.Tie as tie
 returns : tie.Need-returns
 returns c =
     let a = c.before.before.before.args in
-    let whole : length a.docket.held ≡ recordWords = search rules in
-    let lent = lent-short (docketWords (docketOf a.docket)) a.lent.now (omega arith) c.number.ensures in
+    let whole : length a.docket.held ≡ record_words = search rules in
+    let lent = lent-short (docket_words (docket_of a.docket)) a.lent.now (omega arith) c.number.ensures in
     (lent.0, (lent.1, whole))
 
 slice-write-lent-2 : tie.Need-slice-write-lent-2
@@ -30,9 +30,9 @@ returns-2 c =
     let numbered = called.before.before.before in
     let a = numbered.before.before.before.before.args in
     let d = a.docket in
-    let whole : length d.held ≡ recordWords = search rules in
-    let words = put-together (docketOf d) a.lent.now whole (search rules) numbered.number2.ensures in
-    let lent = lent-whole (docketWords (docketOf d)) a.lent.now (omega arith) (called.place.ensures ∙ words) in
+    let whole : length d.held ≡ record_words = search rules in
+    let words = put-together (docket_of d) a.lent.now whole (search rules) numbered.number2.ensures in
+    let lent = lent-whole (docket_words (docket_of d)) a.lent.now (omega arith) (called.place.ensures ∙ words) in
     (lent.0, (lent.1, whole))
 
 pub lend_spec : {M : Type 1} → statement M

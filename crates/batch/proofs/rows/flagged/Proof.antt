@@ -3,14 +3,14 @@ use mathlib.Core.Path.{◌≡◌, refl, sym, ◌∙◌}
 use Prim.Native.Nat.{◌-◌, ◌≤◌}
 use lib.ListN.{length, drop}
 use borrow.Author.Rules.{rules}
-use Rattle.record.specs.Tested.{fieldsIn, hasReadingIn}
-use Rattle.batch.specs.Steps.{flaggedBy}
+use Rattle.record.specs.Tested.{fields_in, has_reading_in}
+use Rattle.batch.specs.Steps.{flagged_by}
 use Rattle.batch.proofs.FlagLaws.{flag-found, flag-next, flag-end}
 use Rattle.batch.proofs.rows.flagged.Statement.{statement}
 use Rattle.batch.proofs.rows.flagged.Tie as tie
 
 abbrev invariant-loop : tie.invariant-loop
-invariant-loop own elements signals i₀ i = (i ≤ length elements) × (flaggedBy elements signals (hasReadingIn (fieldsIn own)) ≡ flaggedBy (drop i elements) (drop i signals) (hasReadingIn (fieldsIn own)))
+invariant-loop own elements signals i₀ i = (i ≤ length elements) × (flagged_by elements signals (has_reading_in (fields_in own)) ≡ flagged_by (drop i elements) (drop i signals) (has_reading_in (fields_in own)))
 
 abbrev decreases-loop : tie.decreases-loop
 decreases-loop own elements signals i₀ i = length elements - i

@@ -3,7 +3,7 @@
 use mathlib.Core.Path.{sym, ap, ◌∙◌}
 use Prim.Native.Nat.{◌-◌}
 use borrow.Author.Rules.{rules}
-use Rattle.judge.specs.Judgements.{judgementOutcome}
+use Rattle.judge.specs.Judgements.{judgement_outcome}
 use Rattle.batch.proofs.SampleLaws.{Making, making-begins, making-next, making-short, making-refused, making-left, making-done}
 use Rattle.batch.proofs.samples.make_all.Statement.{statement}
 use Rattle.batch.proofs.samples.make_all.Tie as tie
@@ -34,7 +34,7 @@ loop-again c =
     let turn = judging.before.before.before.before.before in
     making-next _ _ _ _ _ _ _ _ turn.loop.invariant judging.before.test.result _ _ _ (search rules) (search rules)
     (record { answered = judging.before.test.ensures })
-    (sym judging.judge-tested.ensures ∙ ap judgementOutcome told.before.verdicts.given.1)
+    (sym judging.judge-tested.ensures ∙ ap judgement_outcome told.before.verdicts.given.1)
     placing.before.before.before.row.ensures
     placing.place.ensures
 
@@ -44,7 +44,7 @@ returns-2 c =
     let turn = judging.before.before.before.before.before in
     making-refused _ _ _ _ _ _ _ _ turn.loop.invariant judging.before.test.result _ (search rules) (search rules)
     (record { answered = judging.before.test.ensures })
-    (sym judging.judge-tested.ensures ∙ ap judgementOutcome c.before.why.given.1)
+    (sym judging.judge-tested.ensures ∙ ap judgement_outcome c.before.why.given.1)
 
 returns-3 : tie.Need-returns-3 invariant-loop decreases-loop
 returns-3 c = making-left _ _ _ _ _ _ _ _ c.before.before.loop.invariant (search rules) c.if2.true

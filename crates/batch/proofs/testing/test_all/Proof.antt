@@ -2,7 +2,7 @@
 use mathlib.Core.Path.{sym, ap, ◌∙◌}
 use Prim.Native.Nat.{◌-◌}
 use borrow.Author.Rules.{rules}
-use Rattle.judge.specs.Repeats.{acceptanceOutcome}
+use Rattle.judge.specs.Repeats.{acceptance_outcome}
 use Rattle.batch.proofs.TestLaws.{Testing, testing-begins, testing-next, testing-short, testing-refused, testing-left, testing-done}
 use Rattle.batch.proofs.testing.test_all.Statement.{statement}
 use Rattle.batch.proofs.testing.test_all.Tie as tie
@@ -23,14 +23,14 @@ loop-again : tie.Need-loop-preserved invariant-loop decreases-loop
 loop-again c =
     let tested = c.before.before in
     let turn = tested.before.before.before.before in
-    testing-next _ _ _ _ turn.loop.invariant (search rules) (search rules) (sym tested.test.ensures ∙ ap acceptanceOutcome c.enum_told.given.1)
+    testing-next _ _ _ _ turn.loop.invariant (search rules) (search rules) (sym tested.test.ensures ∙ ap acceptance_outcome c.enum_told.given.1)
 
 returns-2 : tie.Need-returns-2 invariant-loop decreases-loop
 returns-2 c =
     let told = c.before in
     let tested = told.before.before in
     let turn = tested.before.before.before.before in
-    sym (testing-refused _ _ _ _ turn.loop.invariant (search rules) (search rules) (sym tested.test.ensures ∙ ap acceptanceOutcome told.why.given.1))
+    sym (testing-refused _ _ _ _ turn.loop.invariant (search rules) (search rules) (sym tested.test.ensures ∙ ap acceptance_outcome told.why.given.1))
 
 returns-3 : tie.Need-returns-3 invariant-loop decreases-loop
 returns-3 c = sym (testing-left _ _ _ _ c.before.before.loop.invariant (search rules) c.if2.true)

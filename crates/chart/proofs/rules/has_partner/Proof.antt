@@ -1,14 +1,14 @@
 -- Each return is what the definition gives by the tests on the way; the earlier value has room.
 use native.Mathlib.Omega.{arith}
 use borrow.Author.Tests.{le-leb, lt-leb}
-use Rattle.chart.specs.Steps.{hasPartner}
+use Rattle.chart.specs.Steps.{has_partner}
 use Rattle.chart.proofs.RoomLaws.{room_at}
 use borrow.Author.Rules.{rules}
 use Rattle.chart.proofs.rules.has_partner.Statement.{statement}
 use Rattle.chart.proofs.rules.has_partner.Tie as tie
 
 returns : tie.Need-returns
-unfolding hasPartner
+unfolding has_partner
 returns c = rw (lt-leb _ _ c.if1.true)
 
 on-one-side-requires : tie.Need-on-one-side-requires
@@ -22,7 +22,7 @@ beyond-requires c κs =
     (S.requires.0, (omega arith, room_at S.args.later.now _ S.requires.1.2))
 
 returns-2 : tie.Need-returns-2
-unfolding hasPartner
+unfolding has_partner
 returns-2 c =
     let side = c.before in
     rw (le-leb _ _ side.before.before.before.if1.false, side.on-one-side.ensures, c.beyond.ensures)

@@ -2,9 +2,9 @@
 use Prim.Native.Nat.{◌-◌}
 use native.Mathlib.Omega.{arith}
 use lib.ListN.{length}
-use Rattle.chart.specs.Setups.{onSide}
+use Rattle.chart.specs.Setups.{on_side}
 use Rattle.chart.specs.Setups.Side.{Above, Below}
-use Rattle.chart.specs.Steps.{byMean}
+use Rattle.chart.specs.Steps.{by_mean}
 use Rattle.chart.proofs.EveryLaws.{Seen, none_seen, one_more, all_seen}
 use Rattle.chart.proofs.RoomLaws.{room_at, times-most}
 use borrow.Author.Rules.{rules}
@@ -12,7 +12,7 @@ use Rattle.chart.proofs.rules.on_one_side.Statement.{statement}
 use Rattle.chart.proofs.rules.on_one_side.Tie as tie
 
 abbrev invariant-loop : tie.invariant-loop
-invariant-loop n sum values above₀ below₀ k₀ above below k = Seen (onSide (byMean n sum) Above) values k above × Seen (onSide (byMean n sum) Below) values k below
+invariant-loop n sum values above₀ below₀ k₀ above below k = Seen (on_side (by_mean n sum) Above) values k above × Seen (on_side (by_mean n sum) Below) values k below
 
 abbrev decreases-loop : tie.decreases-loop
 decreases-loop n sum values above₀ below₀ k₀ above below k = length values - k

@@ -1,7 +1,7 @@
 -- The lent part is the seven; where there is none, both rules add nothing.
 use native.Mathlib.Omega.{arith}
 use mathlib.Core.Path.{refl}
-use Rattle.chart.specs.Steps.{termsOf}
+use Rattle.chart.specs.Steps.{terms_of}
 use Rattle.chart.proofs.RoomLaws.{room-part}
 use Rattle.chart.proofs.SevenLaws.{too-early, of_part}
 use borrow.Author.Rules.{rules}
@@ -11,7 +11,7 @@ use Rattle.chart.proofs.signal.of_seven.Tie as tie
 returns : tie.Need-returns
 returns c =
     let S = c.before.before in
-    let none = too-early (termsOf S.args.setup) S.args.later.now S.args.i (omega arith) in
+    let none = too-early (terms_of S.args.setup) S.args.later.now S.args.i (omega arith) in
     rw (none.0, none.1) (refl, omega arith)
 
 on-one-side-requires : tie.Need-on-one-side-requires
@@ -29,7 +29,7 @@ returns-2 c =
     let side = four.before in
     let early = side.before.before in
     let S = early.before.before in
-    let seven = of_part (termsOf S.args.setup) S.args.later.now S.args.i (omega arith) in
+    let seven = of_part (terms_of S.args.setup) S.args.later.now S.args.i (omega arith) in
     rw (seven.0, seven.1, ← side.on-one-side.ensures, ← order.in_order.ensures, ← four.weight.ensures.0, ← c.weight2.ensures.0)
     (refl, omega (arith, four.weight.ensures.1, c.weight2.ensures.1))
 

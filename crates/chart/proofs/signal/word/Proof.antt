@@ -2,7 +2,7 @@
 use mathlib.Core.Path.{sym}
 use native.Mathlib.Omega.{arith}
 use native.Mathlib.Nat.{add_assoc}
-use Rattle.chart.specs.Rules.{beyondThree, signalAt}
+use Rattle.chart.specs.Rules.{beyond_three, signal_at}
 use Rattle.chart.proofs.RoomLaws.{room_at}
 use borrow.Author.Rules.{rules}
 use Rattle.chart.proofs.signal.word.Statement.{statement}
@@ -28,7 +28,7 @@ add-result-2 c =
     omega (arith, two.before.before.weight.ensures.1, two.weight2.ensures.1, c.of-seven.ensures.1)
 
 returns : tie.Need-returns
-unfolding signalAt beyondThree
+unfolding signal_at beyond_three
 returns c =
     let two = c.before in
     let pair = two.before in

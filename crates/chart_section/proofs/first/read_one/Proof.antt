@@ -21,8 +21,8 @@ returns-3 c =
     let later = new.before in
     let setup = later.before.before in
     let words = setup.before.before.before in
-    let isNew = passed new.is-new-element.ensures c.before.if2.false in
-    chart-not-fit _ _ words.if1.false setup.wide.ensures later.wide2.ensures isNew (failed fit.counts-fit.ensures c.if3.true)
+    let is_new = passed new.is-new-element.ensures c.before.if2.false in
+    chart-not-fit _ _ words.if1.false setup.wide.ensures later.wide2.ensures is_new (failed fit.counts-fit.ensures c.if3.true)
 
 read-values-requires : tie.Need-read-values-requires
 read-values-requires c κs =
@@ -39,9 +39,9 @@ returns-4 c =
     let setup = later.before.before in
     let words = setup.before.before.before in
     let args = words.before.before.before.args in
-    let isNew = passed new.is-new-element.ensures tests.before.if2.false in
+    let is_new = passed new.is-new-element.ensures tests.before.if2.false in
     let fits = passed fit.counts-fit.ensures tests.if3.false in
-    let e = chart-values args.used.now args.words.now words.if1.false setup.wide.ensures later.wide2.ensures isNew fits in
+    let e = chart-values args.used.now args.words.now words.if1.false setup.wide.ensures later.wide2.ensures is_new fits in
     rw e c.read-values.ensures
 
 pub read-one-spec : {M : Type 1} → statement M

@@ -1,7 +1,7 @@
 -- The counts fit and the values are whole, so the chart's own tests are those of the values alone.
 use native.Mathlib.Omega.{arith}
 use lib.ListN.{length-drop}
-use Rattle.chart_section.specs.ChartSection.{headWords}
+use Rattle.chart_section.specs.ChartSection.{head_words}
 use Rattle.chart.proofs.ValueLaws.{counts-within}
 use Rattle.chart_section.proofs.ChartLaws.{values-short, values-taken, values-refused}
 use borrow.Author.Rules.{rules}
@@ -17,7 +17,7 @@ add-end c = let h = counts-within _ _ c.before.requires.1 in record { fits = ome
 returns : tie.Need-returns
 returns c =
     let start = c.before.before in
-    values-short _ _ _ _ (omega (arith, length-drop headWords start.args.words.now, c.if1.true))
+    values-short _ _ _ _ (omega (arith, length-drop head_words start.args.words.now, c.if1.true))
 
 returns-2 : tie.Need-returns-2
 returns-2 c =

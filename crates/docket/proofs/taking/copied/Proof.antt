@@ -4,16 +4,16 @@ use mathlib.Core.Path.{◌≡◌, ◌∙◌}
 use native.Mathlib.Omega.{arith}
 use Prim.Native.Nat.{◌-◌, ◌≤◌}
 use lib.ListN.{length, take, length-set}
-use Rattle.judge.specs.Repeats.{recordWords}
+use Rattle.judge.specs.Repeats.{record_words}
 use Rattle.docket.proofs.CopyLaws.{one_more, all-copied}
 use Rattle.docket.proofs.taking.copied.Statement.{statement}
 use Rattle.docket.proofs.taking.copied.Tie as tie
 
 abbrev invariant-loop : tie.invariant-loop
-invariant-loop words held₀ i₀ held i = (i ≤ recordWords) × (length held ≡ recordWords) × (take i held ≡ take i words)
+invariant-loop words held₀ i₀ held i = (i ≤ record_words) × (length held ≡ record_words) × (take i held ≡ take i words)
 
 abbrev decreases-loop : tie.decreases-loop
-decreases-loop words held₀ i₀ held i = recordWords - i
+decreases-loop words held₀ i₀ held i = record_words - i
 
 loop-again : tie.Need-loop-preserved invariant-loop decreases-loop
 loop-again c =

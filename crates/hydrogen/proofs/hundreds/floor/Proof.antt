@@ -4,12 +4,12 @@ use Prim.Native.Nat.{ℕ, ◌/◌, ◌^◌, ◌≤◌}
 use native.Mathlib.Nat.{one-le-pow}
 use native.Mathlib.Omega.{arith}
 use borrow.Author.Rules.{rules}
-use Rattle.hydrogen.specs.Floors.{leastPh, greatestPh, floorAt}
-use Rattle.hydrogen.proofs.HundredLaws.{divides-by-ten, entryFor, hundredsTo, floor-from-entry}
+use Rattle.hydrogen.specs.Floors.{least_ph, greatest_ph, floor_at}
+use Rattle.hydrogen.proofs.HundredLaws.{divides-by-ten, entry_for, hundreds_to, floor-from-entry}
 use Rattle.hydrogen.proofs.hundreds.floor.Statement.{statement}
 use Rattle.hydrogen.proofs.hundreds.floor.Tie as tie
 
-divided : (p first by : ℕ) → leastPh ≤ p → p ≤ greatestPh → first ≡ floorAt (entryFor p) → by ≡ 10 ^ hundredsTo p → first / by ≡ floorAt p
+divided : (p first by : ℕ) → least_ph ≤ p → p ≤ greatest_ph → first ≡ floor_at (entry_for p) → by ≡ 10 ^ hundreds_to p → first / by ≡ floor_at p
 divided p first by l u e f = rw (e, f) (sym (floor-from-entry p l u))
 
 -- no power of ten is 0

@@ -5,7 +5,7 @@ use lib.ListN.{length, replicate}
 use Rattle.refusal.proofs.Testing.{failed, passed}
 use Rattle.words.specs.Words.{word_bytes}
 use Rattle.words.proofs.Laws.{unpacked}
-use Rattle.batch.specs.Input.{mostWords}
+use Rattle.batch.specs.Input.{most_words}
 use Rattle.batch.proofs.InputLaws.{input-within}
 use Rattle.joining.proofs.FileLaws.{first-no-input, first_read}
 use Rattle.joining.proofs.FileProofs.{joins-files}
@@ -27,8 +27,8 @@ returns-2 c =
     let start = tested.before.before.before.before.before in
     let bytes = start.args.first.now in
     let is = passed tested.before.is-input.ensures tested.if1.false in
-    let room : length bytes / word_bytes ≤ mostWords = omega (arith, input-within bytes is) in
-    let all = unpacked (replicate mostWords 0) bytes room made.unpack.ensures.0 made.unpack.ensures.1.0 in
+    let room : length bytes / word_bytes ≤ most_words = omega (arith, input-within bytes is) in
+    let all = unpacked (replicate most_words 0) bytes room made.unpack.ensures.0 made.unpack.ensures.1.0 in
     let d = first_read bytes _ start.args.out.now is all _ _ joined.join-second.ensures in
     (d.0, (d.1, joins-files))
 

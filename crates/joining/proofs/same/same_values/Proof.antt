@@ -2,14 +2,14 @@
 use mathlib.Core.Path.{◌≡◌, refl, sym, ◌∙◌}
 use Prim.Native.Nat.{◌-◌}
 use lib.ListN.{length, drop}
-use Rattle.joining.specs.Charts.{sameValues}
+use Rattle.joining.specs.Charts.{same_values}
 use Rattle.joining.proofs.SameLaws.{same-longer, same_differs, same_next, same_end}
 use borrow.Author.Rules.{rules}
 use Rattle.joining.proofs.same.same_values.Statement.{statement}
 use Rattle.joining.proofs.same.same_values.Tie as tie
 
 abbrev invariant-loop : tie.invariant-loop
-invariant-loop a b i₀ i = (length a ≡ length b) × (sameValues a b ≡ sameValues (drop i a) (drop i b))
+invariant-loop a b i₀ i = (length a ≡ length b) × (same_values a b ≡ same_values (drop i a) (drop i b))
 
 abbrev decreases-loop : tie.decreases-loop
 decreases-loop a b i₀ i = length a - i

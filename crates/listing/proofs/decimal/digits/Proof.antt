@@ -4,13 +4,13 @@ use mathlib.Core.Path.{◌≡◌, refl}
 use native.Mathlib.Omega.{arith}
 use Prim.Native.Nat.{◌+◌, ◌^◌, ◌<◌}
 use lib.ListN.{length}
-use Rattle.listing.specs.Decimal.{decimal, mostDigits}
+use Rattle.listing.specs.Decimal.{decimal, most_digits}
 use Rattle.listing.proofs.DecimalLaws.{length-one, length_more, decimal-some, decimal-most}
 use Rattle.listing.proofs.decimal.digits.Statement.{statement}
 use Rattle.listing.proofs.decimal.digits.Tie as tie
 
 abbrev invariant-loop : tie.invariant-loop
-invariant-loop n count₀ rest₀ count rest = (rest < 10 ^ mostDigits) × (count + length (decimal rest) ≡ 1 + length (decimal n))
+invariant-loop n count₀ rest₀ count rest = (rest < 10 ^ most_digits) × (count + length (decimal rest) ≡ 1 + length (decimal n))
 
 abbrev decreases-loop : tie.decreases-loop
 decreases-loop n count₀ rest₀ count rest = rest

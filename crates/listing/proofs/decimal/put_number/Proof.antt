@@ -4,7 +4,7 @@ use mathlib.Core.Path.{◌≡◌, refl, ap, ◌∙◌}
 use native.Mathlib.Omega.{arith}
 use Prim.Native.Nat.{ℕ, ◌+◌, ◌/◌, ◌^◌, ◌<◌}
 use lib.ListN.{length, length-set}
-use Rattle.listing.specs.Decimal.{decimal, mostDigits}
+use Rattle.listing.specs.Decimal.{decimal, most_digits}
 use Rattle.refusal.specs.Lent.{placed}
 use Rattle.listing.proofs.DecimalLaws.{decimal-some, length_more, put_last, put_first}
 use Rattle.listing.proofs.decimal.put_number.Statement.{statement}
@@ -12,7 +12,7 @@ use Rattle.listing.proofs.decimal.put_number.Tie as tie
 
 abbrev invariant-loop : tie.invariant-loop
 invariant-loop text₀ at n next last₀ rest₀ text last rest =
-    (rest < 10 ^ mostDigits)
+    (rest < 10 ^ most_digits)
     × (last + 1 ≡ at + length (decimal rest))
     × (last < length text₀)
     × (length text ≡ length text₀)

@@ -5,7 +5,7 @@ use Prim.Native.Nat.{◌/◌, ◌≤◌}
 use lib.ListN.{length, replicate}
 use Rattle.words.specs.Words.{word_bytes}
 use Rattle.words.proofs.Laws.{unpacked}
-use Rattle.batch.specs.Input.{mostWords}
+use Rattle.batch.specs.Input.{most_words}
 use Rattle.listing.proofs.judging.put_text.Statement.{statement}
 use Rattle.listing.proofs.judging.put_text.Tie as tie
 
@@ -18,8 +18,8 @@ returns c =
     let made = put.before.before.before.before.before in
     let start = made.before.before.before.before in
     let bytes = start.args.bytes.now in
-    let room : length bytes / word_bytes ≤ mostWords = omega (arith, start.requires.1) in
-    let all = unpacked (replicate mostWords 0) bytes room made.unpack.ensures.0 made.unpack.ensures.1.0 in
+    let room : length bytes / word_bytes ≤ most_words = omega (arith, start.requires.1) in
+    let all = unpacked (replicate most_words 0) bytes room made.unpack.ensures.0 made.unpack.ensures.1.0 in
     rw all at put.put-judged.ensures
 
 pub put-text-spec : {M : Type 1} → statement M

@@ -3,7 +3,7 @@ use borrow.Author.Rules.{rules}
 use mathlib.Core.Path.{sym, ◌∙◌}
 use native.Mathlib.Omega.{arith}
 use Prim.Native.Nat.{◌+◌, ◌-◌}
-use Rattle.batch.specs.Rows.{numberWidth}
+use Rattle.batch.specs.Rows.{number_width}
 use Rattle.listing.proofs.LineLaws.{number-field, later-field}
 use Rattle.listing.proofs.lines.field.Statement.{statement}
 use Rattle.listing.proofs.lines.field.Tie as tie
@@ -17,7 +17,7 @@ returns c =
 cast-result : tie.Need-overflow-cast-result
 cast-result c =
     let a = c.before.before.before.args in
-    omega (arith, c.shared-slice-known4.given (a.from + numberWidth.words + (a.i - 1)))
+    omega (arith, c.shared-slice-known4.given (a.from + number_width.words + (a.i - 1)))
 
 returns-2 : tie.Need-returns-2
 returns-2 c =

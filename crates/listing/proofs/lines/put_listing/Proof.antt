@@ -5,8 +5,8 @@ use mathlib.Core.Path.{◌≡◌, refl}
 use native.Mathlib.Omega.{arith}
 use Prim.Native.Nat.{◌+◌, ◌*◌, ◌≤◌}
 use lib.ListN.{length, get_or, drop, length-append}
-use Rattle.batch.specs.Rows.{rowWords}
-use Rattle.listing.specs.Listing.{line, row_lines, listingText}
+use Rattle.batch.specs.Rows.{row_words}
+use Rattle.listing.specs.Listing.{line, row_lines, listing_text}
 use Rattle.listing.proofs.PartLaws.{second-room, both-written, Left, left-all, left-none, left-room, left-next}
 use Rattle.listing.proofs.LineLaws.{rows_next, rows_none}
 use Rattle.listing.proofs.lines.put_listing.Statement.{statement}
@@ -14,20 +14,20 @@ use Rattle.listing.proofs.lines.put_listing.Tie as tie
 
 abbrev invariant-loop : tie.invariant-loop
 invariant-loop text₀ words count next₀ from₀ left₀ text next from left =
-    (from + rowWords * left ≤ length words) × Left text₀ next₀ (row_lines count (drop 1 words)) text next (row_lines left (drop from words))
+    (from + row_words * left ≤ length words) × Left text₀ next₀ (row_lines count (drop 1 words)) text next (row_lines left (drop from words))
 
 abbrev decreases-loop : tie.decreases-loop
 decreases-loop text₀ words count next₀ from₀ left₀ text next from left = left
 
 put-field-requires : tie.Need-put-field-requires invariant-loop decreases-loop
-unfolding listingText line
+unfolding listing_text line
 put-field-requires c κs =
     let start = c.before.before.before.before in
     let words = start.args.words.now in
     omega (arith, start.requires.1, length-append (line (get_or words 0 0 ∷ [])) (row_lines (get_or words 0 0) (drop 1 words)))
 
 loop-holds : tie.Need-loop-init invariant-loop decreases-loop
-unfolding listingText line
+unfolding listing_text line
 loop-holds c =
     let put = c.before.before in
     let start = put.before.before.before.before.before in
@@ -51,7 +51,7 @@ loop-again c =
     (search rules, left-next at.loop.invariant.1 next put.put-row.ensures.1 put.put-row.ensures.0)
 
 returns : tie.Need-returns invariant-loop decreases-loop
-unfolding listingText line
+unfolding listing_text line
 returns c =
     let at = c.before in
     let put = at.before.before.before in

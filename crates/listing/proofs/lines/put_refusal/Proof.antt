@@ -5,31 +5,31 @@ use mathlib.Core.Path.{ap}
 use native.Mathlib.Omega.{arith}
 use Prim.Native.Nat.{ℕ}
 use Rattle.listing.specs.Decimal.{decimal}
-use Rattle.listing.specs.Listing.{ending, refusedWord, line, refusedText}
+use Rattle.listing.specs.Listing.{ending, refused_word, line, refused_text}
 use Rattle.listing.proofs.PartLaws.{second-room, both-written}
 use Rattle.listing.proofs.lines.put_refusal.Statement.{statement}
 use Rattle.listing.proofs.lines.put_refusal.Tie as tie
 
 copy-requires : tie.Need-copy-requires
-unfolding refusedText
+unfolding refused_text
 copy-requires c κs = omega (arith, c.before.before.before.requires)
 
 put-field-requires : tie.Need-put-field-requires
-unfolding refusedText line
+unfolding refused_text line
 put-field-requires c κs =
     let copied = c.before.before.before.before in
     let start = copied.before.before.before.before in
-    second-room start.args.text.now refusedWord _ start.requires copied.copy.ensures.1 copied.copy.ensures.0
+    second-room start.args.text.now refused_word _ start.requires copied.copy.ensures.1 copied.copy.ensures.0
     (ap (λ (n : ℕ). decimal n ++ (ending 0 ∷ [])) c.number.ensures)
 
 returns : tie.Need-returns
-unfolding refusedText line
+unfolding refused_text line
 returns c =
     let put = c.before.before in
     let numbered = put.before in
     let copied = numbered.before.before.before.before in
     let start = copied.before.before.before.before in
-    both-written start.args.text.now refusedWord _ start.requires copied.copy.ensures.1 copied.copy.ensures.0
+    both-written start.args.text.now refused_word _ start.requires copied.copy.ensures.1 copied.copy.ensures.0
     (ap (λ (n : ℕ). decimal n ++ (ending 0 ∷ [])) numbered.number.ensures)
     put.put-field.ensures.1 put.put-field.ensures.0
 

@@ -2,7 +2,7 @@
 use borrow.Author.Rules.{rules}
 use Prim.Native.Nat.{◌-◌, ◌≤◌}
 use lib.ListN.{length, drop}
-use Rattle.batch.specs.Rows.{rowWidths, row_at, rowFields}
+use Rattle.batch.specs.Rows.{row_widths, row_at, row_fields}
 use Rattle.listing.specs.Listing.{line, row_line}
 use Rattle.listing.proofs.PartLaws.{Left, left-all, left-none, left-room, left-next}
 use Rattle.listing.proofs.LineLaws.{row_next, row_ends}
@@ -11,10 +11,10 @@ use Rattle.listing.proofs.lines.put_row.Tie as tie
 
 abbrev invariant-loop : tie.invariant-loop
 invariant-loop text₀ at words from next₀ i₀ text next i =
-    (i ≤ length rowWidths) × Left text₀ at (row_line (row_at words from)) text next (line (drop i (rowFields (row_at words from))))
+    (i ≤ length row_widths) × Left text₀ at (row_line (row_at words from)) text next (line (drop i (row_fields (row_at words from))))
 
 abbrev decreases-loop : tie.decreases-loop
-decreases-loop text₀ at words from next₀ i₀ text next i = length rowWidths - i
+decreases-loop text₀ at words from next₀ i₀ text next i = length row_widths - i
 
 loop-holds : tie.Need-loop-init invariant-loop decreases-loop
 unfolding row_line

@@ -3,7 +3,7 @@ use mathlib.Core.Path.{sym, ap, ◌∙◌, subst}
 use lib.Dec.{T}
 use lib.Ieee.{binary32, fits}
 use lib.Ieee.Bits.{of_bits-to_bits}
-use Rattle.reading.specs.Amounts.{valueMass}
+use Rattle.reading.specs.Amounts.{value_mass}
 use Rattle.reading.proofs.RangeLaws.{of-pattern, not-nan}
 use Rattle.reading.proofs.rounding.mass_of_value.Statement.{statement}
 use Rattle.reading.proofs.rounding.mass_of_value.Tie as tie
@@ -18,7 +18,7 @@ mass-of-pattern-requires : tie.Need-mass-of-pattern-requires
 mass-of-pattern-requires c κs = of-pattern 0 _ (held c) ∙ c.requires
 
 returns : tie.Need-returns
-returns c = c.mass-of-pattern.ensures ∙ ap valueMass (of_bits-to_bits binary32 _ (held c.before))
+returns c = c.mass-of-pattern.ensures ∙ ap value_mass (of_bits-to_bits binary32 _ (held c.before))
 
 pub mass-of-value-spec : {M : Type 1} → statement M
 mass-of-value-spec =

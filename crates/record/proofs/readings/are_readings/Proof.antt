@@ -3,16 +3,16 @@ use mathlib.Core.Path.{◌≡◌, sym}
 use mathlib.Core.Bool.{true}
 use Prim.Native.Nat.{◌-◌, ◌≤◌}
 use native.Mathlib.Omega.{arith}
-use Rattle.refusal.specs.Outcome.{isGiven}
+use Rattle.refusal.specs.Outcome.{is_given}
 use Rattle.refusal.proofs.Testing.{failed, passed}
-use Rattle.record.specs.Record.{readings, readAt, all_below}
+use Rattle.record.specs.Record.{readings, read_at, all_below}
 use Rattle.record.proofs.AllBelow.{all_none, all_more, all-fails}
 use borrow.Author.Rules.{rules}
 use Rattle.record.proofs.readings.are_readings.Statement.{statement}
 use Rattle.record.proofs.readings.are_readings.Tie as tie
 
 abbrev invariant-loop : tie.invariant-loop
-invariant-loop words i₀ i = (i ≤ readings) × (all_below (λ k. isGiven (readAt words k)) i ≡ true)
+invariant-loop words i₀ i = (i ≤ readings) × (all_below (λ k. is_given (read_at words k)) i ≡ true)
 
 abbrev decreases-loop : tie.decreases-loop
 decreases-loop words i₀ i = readings - i

@@ -2,7 +2,7 @@
 use mathlib.Core.Path.{ap, ◌∙◌}
 use Prim.Native.Nat.{ℕ, ◌*◌}
 use native.Mathlib.Omega.{arith}
-use Rattle.solution.specs.Ions.{cationCharge, anionCharge}
+use Rattle.solution.specs.Ions.{cation_charge, anion_charge}
 use Rattle.record.specs.Record.{sodium, chloride}
 use Rattle.solution.proofs.IonLaws.{next_small}
 use borrow.Author.Rules.{rules}
@@ -24,8 +24,8 @@ returns c =
     let second = c.before.before in
     let first = second.before.before in
     record {
-      sodium = first.of-ion.ensures.cation ∙ ap (λ (m : ℕ). cationCharge sodium * m) first.before.at-end.ensures;
-      chloride = second.of-ion2.ensures.anion ∙ ap (λ (m : ℕ). anionCharge chloride * m) second.before.at-end2.ensures;
+      sodium = first.of-ion.ensures.cation ∙ ap (λ (m : ℕ). cation_charge sodium * m) first.before.at-end.ensures;
+      chloride = second.of-ion2.ensures.anion ∙ ap (λ (m : ℕ). anion_charge chloride * m) second.before.at-end2.ensures;
     }
 
 pub sodium-chloride-spec : {M : Type 1} → statement M

@@ -6,17 +6,17 @@ use Prim.Native.Nat.{ℕ, ◌-◌, ◌≤◌}
 use native.Mathlib.Omega.{arith}
 use lib.Dec.{leb}
 use Rattle.reading.specs.declared.Analyte.{Analyte}
-use Rattle.reading.specs.Amounts.{mostMass}
+use Rattle.reading.specs.Amounts.{most_mass}
 use Rattle.reading.specs.Analytes.{AmountRange}
 use Rattle.record.specs.Record.{readings, all_below}
 use Rattle.record.proofs.AllBelow.{all_none, all-next}
-use Rattle.solution.specs.ByValue.{amountAt, areSmall}
+use Rattle.solution.specs.ByValue.{amount_at, are_small}
 use borrow.Author.Rules.{rules}
 use Rattle.solution.proofs.ranges.are_small.Statement.{statement}
 use Rattle.solution.proofs.ranges.are_small.Tie as tie
 
 abbrev small_at : List Analyte → ℕ → Bool
-small_at analytes i = leb (amountAt true analytes i) mostMass
+small_at analytes i = leb (amount_at true analytes i) most_mass
 
 abbrev invariant-loop : tie.invariant-loop
 invariant-loop analytes small₀ i₀ small i = (i ≤ readings) × (small ≡ all_below (small_at analytes) i)
@@ -30,11 +30,11 @@ loop-holds c = (search rules, sym (all_none _))
 loop-again : tie.Need-loop-preserved invariant-loop decreases-loop
 loop-again c = let at = c.before.before.before.before.loop in
     let analytes = c.before.before.before.before.before.args.t1 in
-    let most = ap (λ (r : AmountRange). leb r.most mostMass) c.before.range.ensures.0 in
+    let most = ap (λ (r : AmountRange). leb r.most most_mass) c.before.range.ensures.0 in
     (search rules, ap₂ (λ (a b : Bool). a && b) at.invariant.1 most ∙ sym (all-next (small_at analytes) at.i))
 
 returns : tie.Need-returns invariant-loop decreases-loop
-unfolding areSmall
+unfolding are_small
 returns c = let e : c.before.loop.i ≡ readings = omega arith in c.before.loop.invariant.1 ∙ ap (all_below (small_at c.before.before.args.t1)) e
 
 pub are-small-spec : {M : Type 1} → statement M
