@@ -1,5 +1,7 @@
 // The correction of calculated conductivity at higher ionic strength (document 02 (v)): from the least and the greatest
 // ionic strength of a water to a bracket of 10^9 y², y being the activity of a monovalent ion by the Davies equation.
+#![tactic(auto)]
+
 mod exponent;
 mod newton;
 mod root;

@@ -1,4 +1,6 @@
 // Whether two analyses of a sample agree (document 01, 'The docket').
+#![tactic(auto)]
+
 mod comparison;
 
 ghost use Rattle.std.specs.Prelude.{◌≡◌};

@@ -1,6 +1,8 @@
 // The judge, the docket, control charts, batches and their joining for programs in C, which see a slice as a pointer and a length
 // (include/peltquarry.h). Each call returns 0 where it did what was asked, else the number of the documents' refusal, and then
 // the words lent to it are as they were. An answer goes into the first words of the lent output.
+#![tactic(auto)]
+
 mod codes;
 mod docket_words;
 mod lending;

@@ -1,4 +1,6 @@
 // Judges a batch (document 01, 'A batch'): control charts, then samples. The answer is the sample count, then a row a sample.
+#![tactic(auto)]
+
 pub mod input;
 mod rows;
 mod samples;

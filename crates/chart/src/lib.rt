@@ -1,5 +1,7 @@
 // Reads a control chart (document 01, 'Charts'): setup values give a mean and deviations, and each later value gets a
 // signal word by four rules.
+#![tactic(auto)]
+
 mod deviations;
 mod rules;
 mod setup;

@@ -1,4 +1,6 @@
 // The control charts of a batch, read from the front: each one's element and its last signal (document 01, 'A batch').
+#![tactic(auto)]
+
 mod charts;
 mod elements;
 mod first;

@@ -1,6 +1,8 @@
 // Follows the repeats of a sample on a docket (document 01, 'The docket'): a record is offered, and is taken or refused;
 // at most three are taken. A layer above the judge, which rests on what the judge promises and, for
 // answers, on `refusal`.
+#![tactic(auto)]
+
 mod offering;
 mod standing;
 mod taking;

@@ -1,5 +1,7 @@
 // Follows the analyses of a bottle: records from standard input, offered in turn to a fresh docket, and a line of text for
 // each: the answer, the state and the count. A rest that is not a whole record is offered as it is.
+#![tactic(auto)]
+
 use docket::{Answer, Docket, State};
 use libc::STDOUT_FILENO;
 

@@ -1,4 +1,6 @@
 // True hydrogen (document 01, 'Hydrogen'): the floor of H at a pH in hundredths, called p.
+#![tactic(auto)]
+
 mod hundreds;
 mod rows;
 mod table;

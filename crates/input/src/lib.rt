@@ -1,4 +1,6 @@
 // Words from standard input: four bytes each, least byte first.
+#![tactic(auto)]
+
 ghost use Rattle.std.specs.Prelude.{◌≤◌, length};
 ghost use Rattle.input.specs.Input.{most_bytes, Came};
 

@@ -1,5 +1,7 @@
 // The program of document 02 (iii): joins the batches of two files, and writes the joined file to standard output, or the line
 // `refused N`. What keeps it from reading two files it says on standard error, and then writes nothing else.
+#![tactic(auto)]
+
 mod reading;
 
 use batch::input::MOST_BYTES;

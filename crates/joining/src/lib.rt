@@ -1,5 +1,7 @@
 // Two batches of one day joined (document 02 (iii)): the charts of the first, then those found only in the second; the samples of
 // the first, then those of the second.
+#![tactic(auto)]
+
 mod chart_at;
 pub mod files;
 mod finding;

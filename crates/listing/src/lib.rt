@@ -1,5 +1,7 @@
 // The text that the listing program prints (document 01, 'A batch', and 02 (ii)): the bytes of a batch become words, the batch is
 // judged, and its answer becomes lines.
+#![tactic(auto)]
+
 mod decimal;
 mod judging;
 mod lending;

@@ -1,4 +1,6 @@
 // The listing program of document 01: reads a batch from standard input and prints its text on standard output.
+#![tactic(auto)]
+
 use libc::{STDIN_FILENO, STDOUT_FILENO};
 
 fn main() {

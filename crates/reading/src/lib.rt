@@ -1,6 +1,8 @@
 // Readings of the analyser (document 01, 'A reading', and 02 (i), (vi) and (vii)): made from a value and its quantification limit,
 // or from the two words of a record; written back as words; and converted to an amount in tenths of a µg/L, and to the range
 // of amounts that a check takes it for.
+#![tactic(auto)]
+
 mod amounts;
 mod marks;
 mod ranges;

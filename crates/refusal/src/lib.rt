@@ -1,5 +1,7 @@
 // The refusals of document 01 and of document 02 (iii), each under a name, with the paper's number; and the answer of a call
 // that writes to a lent slice.
+#![tactic(auto)]
+
 ghost use Rattle.std.specs.Prelude.{◌≡◌};
 ghost use Rattle.refusal.specs.Numbers.{number_of};
 

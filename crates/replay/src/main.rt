@@ -1,6 +1,8 @@
 // A test program: many cases on one standard input, calls of the libraries, a line of text for each answer.
 // The input is words of four bytes, least byte first. A case is the number of a call, a count, and that many words.
 // At a case that is malformed, or that the input ends in the middle of, it prints `malformed` and stops.
+#![tactic(auto)]
+
 mod batches;
 mod calls;
 mod control_charts;

@@ -1,5 +1,7 @@
 // What a water holds in solution by its analysis (document 01, 'Charge and conductance', and 02 (i), (v) and (vi)): the charges,
 // the conductivities and the ionic strength of the table's ten rows, added up to the sums that the checks compare.
+#![tactic(auto)]
+
 mod amounts;
 mod both_ends;
 mod ions;

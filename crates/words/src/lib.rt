@@ -1,5 +1,7 @@
 // Slices of words of 32 bits: made of bytes, made bytes again, and put into others. Each call goes as far as there is room, so
 // that it takes every slice.
+#![tactic(auto)]
+
 mod packed;
 
 ghost use Rattle.std.specs.Prelude.{◌≡◌, ◌-◌, ◌≤◌, min, length};
