@@ -14,7 +14,7 @@ ghost use Rattle.activity.specs.Truth.{Bracketed};
 
 // An ionic strength in halves of 10^-15 mol/L: the sum over the ten rows of charge in u times the ion's charge number.
 // u is 10^-15 equivalents per litre, and ionic strength is half of that sum.
-#[derive(Drop)]
+#[derive(Clone, Copy)]
 pub struct IonicStrength(pub u64);
 
 // 10^9: the bracket's ends are whole numbers of billionths.
@@ -24,7 +24,7 @@ pub const UNIT: u64 = 1000000000;
 const STRONGEST: u64 = 160000000000000;
 
 // A bracket of y², or why there is none.
-#[derive(Drop)]
+#[derive(Clone, Copy)]
 pub enum Correction {
     // y² is from least to most billionths, both included.
     Between { least: u64, most: u64 },

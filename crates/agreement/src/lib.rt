@@ -12,7 +12,7 @@ use record::{Tested, TestedRecord};
 use refusal::Refusal;
 
 // Whether two records agree, or why that is not told.
-#[derive(Drop)]
+#[derive(Clone, Copy)]
 pub enum Agreement {
     Agree,
     Differ,

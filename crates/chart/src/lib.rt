@@ -17,7 +17,7 @@ use crate::values::Tested;
 use refusal::{Refusal, Written};
 
 // The signal word of the last later value, or why there is none.
-#[derive(Drop)]
+#[derive(Clone, Copy)]
 pub enum Last {
     Given(u32),
     Refused(Refusal),

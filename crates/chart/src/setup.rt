@@ -6,7 +6,7 @@ ghost use Rattle.chart.specs.Steps.{InRoom, prepared};
 
 // How many values, their sum and the sum of their squares: n, S and Q of document 01; and the limit at one deviation,
 // n × (n×Q − S²).
-#[derive(Drop)]
+#[derive(Clone, Copy)]
 pub struct Setup {
     pub n: u64,
     pub sum: u64,

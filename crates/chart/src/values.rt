@@ -15,7 +15,7 @@ pub const MOST_LATER: usize = 64;
 const GREATEST_VALUE: u32 = 2000000;
 
 // How the tests of a chart's values end: they are accepted, or the first test that refuses them.
-#[derive(Drop)]
+#[derive(Clone, Copy)]
 pub enum Tested {
     Accepted,
     Refused(Refusal),

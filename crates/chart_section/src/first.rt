@@ -9,7 +9,7 @@ use chart::Last;
 use refusal::Refusal;
 
 // What reading a chart finds: its element, the signal at its last later value and how many words it has; or why it is refused.
-#[derive(Drop)]
+#[derive(Clone, Copy)]
 pub enum ChartRead {
     Chart {
         element: u32,

@@ -27,7 +27,7 @@ pub const LATER_COUNT: usize = 2;
 pub const MOST_CHART: usize = HEAD_WORDS + (MOST_SETUP + MOST_LATER);
 
 // How reading the charts' section ended: whole, with so many words, or refused.
-#[derive(Drop)]
+#[derive(Clone, Copy)]
 pub enum Ended {
     Whole(usize),
     Refused(Refusal),
@@ -35,7 +35,7 @@ pub enum Ended {
 
 // How it ended, how many charts there are, and each one's element and last signal, with 0 in the places beyond. After a refusal
 // there is no chart.
-#[derive(Drop)]
+#[derive(Clone, Copy)]
 pub struct ChartColumns {
     pub ended: Ended,
     pub count: usize,

@@ -18,7 +18,7 @@ use refusal::Refusal;
 pub const MOST: u32 = 3;
 
 // Where a docket stands: document 01's terms.
-#[derive(Drop)]
+#[derive(Clone, Copy)]
 pub enum State {
     Open,
     Consistent,
@@ -28,7 +28,7 @@ pub enum State {
 
 // A docket: where it stands, how many analyses it took, and the last record it took. The form that document 01 names:
 // a struct by value holding the last record's words in an array.
-#[derive(Drop)]
+#[derive(Clone, Copy)]
 pub struct Docket {
     pub state: State,
     pub count: u32,
@@ -36,14 +36,14 @@ pub struct Docket {
 }
 
 // What is answered to an offer.
-#[derive(Drop)]
+#[derive(Clone, Copy)]
 pub enum Answer {
     Taken,
     Refused(Refusal),
 }
 
 // The docket after an offer, and the answer.
-#[derive(Drop)]
+#[derive(Clone, Copy)]
 pub struct Offered {
     pub docket: Docket,
     pub answer: Answer,

@@ -6,7 +6,7 @@ use docket::{Answer, Docket, State};
 use libc::STDOUT_FILENO;
 
 // The docket after a turn, and whether the input may hold more.
-#[derive(Drop)]
+#[derive(Clone, Copy)]
 struct Turn {
     docket: Docket,
     more: bool,

@@ -25,7 +25,7 @@ const GREATEST_PH: u32 = 1000;
 const PER_PH: u32 = 100;
 
 // The floor of true hydrogen in u, which is 10^-9 µeq/L, or why there is none.
-#[derive(Drop)]
+#[derive(Clone, Copy)]
 pub enum FloorResult {
     Given(u64),
     Refused(Refusal),

@@ -13,7 +13,7 @@ pub const MOST_WORDS: usize = 1024;
 const MOST_BYTES: usize = MOST_WORDS * WORD_BYTES;
 
 // What came: so many bytes, and so many whole words.
-#[derive(Drop)]
+#[derive(Clone, Copy)]
 pub struct Got {
     pub bytes: usize,
     pub words: usize,

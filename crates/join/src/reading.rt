@@ -4,7 +4,7 @@ ghost use Rattle.std.specs.Prelude.{◌≤◌, length};
 use libc::STDERR_FILENO;
 
 // How many bytes came, or that the file could not be read.
-#[derive(Drop)]
+#[derive(Clone, Copy)]
 pub struct Got {
     pub is_read: bool,
     pub count: usize,

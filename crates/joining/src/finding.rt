@@ -4,7 +4,7 @@ ghost use Rattle.joining.specs.Steps.{HasCharts, charts_in, FoundSaid};
 
 use crate::chart_at;
 
-#[derive(Drop)]
+#[derive(Clone, Copy)]
 pub enum Found {
     At(usize),
     Nothing,

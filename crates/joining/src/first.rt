@@ -11,7 +11,7 @@ use chart_section::{HEAD_WORDS, LATER_COUNT, SETUP_COUNT};
 use refusal::Refusal;
 
 // How joining a chart went: where it ends in the buffer, or why it is refused.
-#[derive(Drop)]
+#[derive(Clone, Copy)]
 pub enum ChartJoined {
     Joined(usize),
     Refused(Refusal),
@@ -50,7 +50,7 @@ fn join_both(words: &[u32], other: &[u32], charts: &mut [u32], at: usize) -> Cha
 }
 
 // How joining the charts of the first batch went: where they end in its words and in the buffer, or why one is refused.
-#[derive(Drop)]
+#[derive(Clone, Copy)]
 pub enum FirstJoined {
     Joined { at: usize, size: usize },
     Refused(Refusal),

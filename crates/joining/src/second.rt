@@ -8,7 +8,7 @@ use crate::finding::Found;
 use crate::{chart_at, finding, putting};
 
 // How many words and charts the buffer holds, and how many of the lent words have been gone through.
-#[derive(Drop)]
+#[derive(Clone, Copy)]
 pub struct Added {
     pub size: usize,
     pub count: usize,

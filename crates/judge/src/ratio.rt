@@ -6,7 +6,7 @@ ghost use Rattle.judge.specs.Corners.{fraction};
 use reading::Mass;
 use solution::{Charge, Conductivity};
 
-#[derive(Drop)]
+#[derive(Clone, Copy)]
 pub struct Fraction {
     pub numerator: u64,
     pub denominator: u64,

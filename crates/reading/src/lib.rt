@@ -21,14 +21,14 @@ use refusal::Refusal;
 pub use rounding::{MOST_MASS, PER_MILLIGRAM};
 
 // What the analyser holds for a reading, in mg/L: the form that document 01 names, a struct with two f32 fields.
-#[derive(Drop)]
+#[derive(Clone, Copy)]
 pub struct Analysed {
     pub value: f32,
     pub limit: f32,
 }
 
 // A reading, in mg/L: missing, measured with its float, or below with its quantification limit (document 01's enum).
-#[derive(Drop)]
+#[derive(Clone, Copy)]
 pub enum Reading {
     Missing,
     Measured(f32),
@@ -36,19 +36,19 @@ pub enum Reading {
 }
 
 // A reading as a record holds it: a mark, and the bits of its float.
-#[derive(Drop)]
+#[derive(Clone, Copy)]
 pub struct Words {
     pub mark: u32,
     pub bits: u32,
 }
 
 // A mass concentration in tenths of a µg/L, held apart from charge and conductivity by its type.
-#[derive(Drop)]
+#[derive(Clone, Copy)]
 pub struct Mass(pub u64);
 
 // A reading of a record with its amount, 0 where it is missing, and the amount of the limit that it is below, 0 where it is
 // below none.
-#[derive(Drop)]
+#[derive(Clone, Copy)]
 pub struct Analyte {
     pub reading: Reading,
     pub mass: Mass,
@@ -56,28 +56,28 @@ pub struct Analyte {
 }
 
 // From the least to the greatest amount that a check takes a reading for.
-#[derive(Drop)]
+#[derive(Clone, Copy)]
 pub struct MassRange {
     pub least: Mass,
     pub most: Mass,
 }
 
 // A reading, or why there is none.
-#[derive(Drop)]
+#[derive(Clone, Copy)]
 pub enum ReadingResult {
     Given(Reading),
     Refused(Refusal),
 }
 
 // The words of a reading, or why there are none.
-#[derive(Drop)]
+#[derive(Clone, Copy)]
 pub enum WordsResult {
     Given(Words),
     Refused(Refusal),
 }
 
 // The amount of a reading: nothing where it is missing, else a mass, or why there is none.
-#[derive(Drop)]
+#[derive(Clone, Copy)]
 pub enum AmountResult {
     Missing,
     Given(Mass),
@@ -85,7 +85,7 @@ pub enum AmountResult {
 }
 
 // An analyte, or why there is none.
-#[derive(Drop)]
+#[derive(Clone, Copy)]
 pub enum AnalyteResult {
     Given(Analyte),
     Refused(Refusal),

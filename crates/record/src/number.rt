@@ -6,7 +6,7 @@ ghost use Rattle.record.specs.Number.{whole_number, high_part, low_part, NumberL
 const WORD_VALUES: u64 = 4294967296;
 
 // The two words of a number.
-#[derive(Drop)]
+#[derive(Clone, Copy)]
 pub struct Parts {
     pub high: u32,
     pub low: u32,

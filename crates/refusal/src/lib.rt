@@ -6,7 +6,7 @@ ghost use Rattle.std.specs.Prelude.{◌≡◌};
 ghost use Rattle.refusal.specs.Numbers.{number_of};
 
 // Why a call refuses. 1 to 10 come from the input, 11 to 13 from the state, 14 and 15 from two batches that are joined.
-#[derive(Drop)]
+#[derive(Clone, Copy)]
 pub enum Refusal {
     RecordLength,
     SampleNumber,
@@ -51,7 +51,7 @@ impl Refusal {
 }
 
 // What a call that writes to a lent slice answers: how long its answer there is, or why nothing was written.
-#[derive(Drop)]
+#[derive(Clone, Copy)]
 pub enum Written {
     Length(usize),
     Refused(Refusal),

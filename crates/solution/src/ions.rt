@@ -32,7 +32,7 @@ pub const ALKALINITY_CHARGE_NUMBER: u64 = 1;
 const CHARGE_UNIT: u64 = 1000;
 
 // A row of the table.
-#[derive(Drop)]
+#[derive(Clone, Copy)]
 struct Row {
     cation: u64,
     anion: u64,
@@ -42,7 +42,7 @@ struct Row {
 }
 
 // What an amount of an ion adds to the sums: to one side of the balance, 0 to the other, to the conductivity and to the strength.
-#[derive(Drop)]
+#[derive(Clone, Copy)]
 pub struct Ion {
     pub cation: Charge,
     pub anion: Charge,
@@ -51,7 +51,7 @@ pub struct Ion {
 }
 
 // The sums of the eight ions.
-#[derive(Drop)]
+#[derive(Clone, Copy)]
 pub struct Eight {
     pub cations: Charge,
     pub anions: Charge,

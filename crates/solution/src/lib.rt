@@ -19,29 +19,29 @@ use reading::Mass;
 use record::TestedRecord;
 
 // A charge in u, which is 10^-9 µeq/L, held apart from mass and conductivity by its type.
-#[derive(Drop)]
+#[derive(Clone, Copy)]
 pub struct Charge(pub u64);
 
 // A conductivity in 10^-13 µS/cm, held apart from mass and charge by its type.
-#[derive(Drop)]
+#[derive(Clone, Copy)]
 pub struct Conductivity(pub u64);
 
 // The two charges of the sodium/chloride ratio.
-#[derive(Drop)]
+#[derive(Clone, Copy)]
 pub struct SodiumChloride {
     pub sodium: Charge,
     pub chloride: Charge,
 }
 
 // The two masses of the nitrogen check: of nitrate with ammonium, and of total nitrogen.
-#[derive(Drop)]
+#[derive(Clone, Copy)]
 pub struct Nitrogen {
     pub mineral: Mass,
     pub total: Mass,
 }
 
 // Every sum that a check compares with another, and the ionic strength.
-#[derive(Drop)]
+#[derive(Clone, Copy)]
 pub struct Sums {
     // Cat, An, the plain sum of conductivities and CM.
     pub cations: Charge,
@@ -54,7 +54,7 @@ pub struct Sums {
 }
 
 // What a record holds in solution: of each sum its least and its greatest value.
-#[derive(Drop)]
+#[derive(Clone, Copy)]
 pub struct Solution {
     // Whether none of the eight ions is missing.
     pub known: bool,
