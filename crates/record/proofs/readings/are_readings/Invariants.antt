@@ -1,0 +1,12 @@
+use mathlib.Core.Path.{◌≡◌}
+use mathlib.Core.Bool.{true}
+use Prim.Native.Nat.{◌-◌, ◌≤◌}
+use Rattle.refusal.specs.Outcome.{is_given}
+use Rattle.record.specs.Record.{readings, read_at, all_below}
+use Rattle.record.proofs.readings.are_readings.Given as goal
+
+abbrev pub invariant-loop-i : goal.invariant-loop-i
+invariant-loop-i l = (l.i ≤ readings) × (all_below (λ k. is_given (read_at l.words k)) l.i ≡ true)
+
+abbrev pub decreases-loop-i : goal.decreases-loop-i
+decreases-loop-i l = readings - l.i

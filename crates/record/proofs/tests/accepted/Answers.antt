@@ -1,0 +1,5 @@
+-- Field by field; the number is made of its words, and the readings are those that were read.
+use Rattle.record.proofs.tests.accepted.Goals as goal
+
+pub returns : goal.returns
+returns c = rw (c.number_of_lem.ensures, c.requires.1)
