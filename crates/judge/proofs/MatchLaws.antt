@@ -2,13 +2,9 @@
 -- cases.
 use mathlib.Core.Path.{◌≡◌, refl, ap}
 use mathlib.Core.Bool.{true, false}
-use mathlib.Core.Logic.{◌⊎◌, ⊎_elim}
-use native.Mathlib.Omega.{arith}
-use denote.Enum.Declared.{tag_of}
 use Rattle.reading.specs.declared.Reading.{Reading}
 use Rattle.reading.specs.declared.Reading.TheVariants.{Missing, Measured, Below}
 use Rattle.reading.specs.Analytes.{present}
-use Rattle.reading.specs.contracts.Reading.{the_type}
 
 -- measured or below
 abbrev pub There : Reading → Type 0
