@@ -3,8 +3,8 @@
 
     scripts/slowest.py CRATE
 
-checks the crate from nothing in the edit loop (`rt dev`) and prints the seconds of each function and law file, dearest first. The
-edit loop saves each module as it is checked; the times are those between one save and the next, so nothing else should run.
+checks the crate from nothing (`rt check`) and prints the seconds of each function and law file, dearest first. The
+check saves each module as it is done; the times are those between one save and the next, so nothing else should run.
 """
 import collections
 import pathlib
@@ -24,9 +24,9 @@ def subject(path):
 
 def main():
     crate = sys.argv[1]
-    folder = ROOT / 'target' / 'inc' / crate
+    folder = ROOT / 'crates' / crate / 'out' / 'incremental'
     shutil.rmtree(folder, ignore_errors=True)
-    subprocess.run(['rt', 'dev', crate], cwd=ROOT, capture_output=True, check=True)
+    subprocess.run(['rt', 'check', crate], cwd=ROOT, capture_output=True, check=True)
     saved = sorted((path.stat().st_mtime, path) for path in folder.rglob('*.oantt'))
     seconds = collections.Counter()
     for (before, _), (after, path) in zip(saved, saved[1:]):
