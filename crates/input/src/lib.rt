@@ -4,7 +4,7 @@
 ghost use Rattle.std.specs.Prelude.{◌≤◌, length};
 ghost use Rattle.input.specs.Input.{most_bytes, Came};
 
-use libc::STDIN_FILENO;
+use std::io::Read;
 use words::WORD_BYTES;
 
 // The most words that one call reads.
@@ -21,27 +21,42 @@ pub struct Got {
 
 // Fills `words`, or the first MOST_WORDS of them, as far as the input goes. That the whole words that came are within the slice
 // follows from the first promise, and is said for the caller who lends that part of it.
-pub fn read(words: &mut [u32]) -> Got
+pub fn read<R: Read>(input: &mut R, words: &mut [u32]) -> Got
     ensures came { Came words.old words.new result }
     ensures inside { result.words ≤ length words.new }
 {
     let wanted = lesser(words.len(), MOST_WORDS) * WORD_BYTES;
     let mut buffer = [0u8; MOST_BYTES];
-    fill(words, &mut buffer, wanted)
+    fill(input, words, &mut buffer, wanted)
 }
 
 // The same through a buffer, for so many bytes.
-fn fill(words: &mut [u32], buffer: &mut [u8], wanted: usize) -> Got
+fn fill<R: Read>(input: &mut R, words: &mut [u32], buffer: &mut [u8], wanted: usize) -> Got
     requires { (wanted ≤ length buffer.old) × (wanted ≤ most_bytes words.old) }
     ensures came { Came words.old words.new result }
     ensures inside { result.words ≤ length words.new }
 {
-    let got = io::read_full(STDIN_FILENO, &mut buffer[0..wanted]);
+    let got = read_full(input, &mut buffer[0..wanted]);
     let whole = words::unpack(&buffer[0..got], words);
     Got {
         bytes: got,
         words: whole,
     }
+}
+
+// Reads until the bytes are full or the input ends, and answers how many came. A read that fails ends the input too.
+pub fn read_full<R: Read>(input: &mut R, bytes: &mut [u8]) -> usize
+    ensures inside { result ≤ length bytes.new }
+{
+    let mut done = 0;
+    while done < bytes.len() {
+        let came = input.read(&mut bytes[done..]).unwrap_or(0);
+        if came == 0 {
+            break;
+        }
+        done += came;
+    }
+    done
 }
 
 fn lesser(a: usize, b: usize) -> usize
