@@ -2,4 +2,4 @@
 use Rattle.record.proofs.tests.accepted.Goals as goal
 
 pub returns : goal.returns
-returns c = rw (c.number_of_lem.ensures, c.requires.1)
+returns c = rw (c.number_of.ensures, c.requires.1)

@@ -1,0 +1,12 @@
+-- Both ends are those of the fields.
+use Rattle.solution.proofs.MadeLaws.{lowest-ranged, highest-ranged, both-made}
+use Rattle.solution.proofs.both_ends.of_ranged.Goals as goal
+
+pub sums-least-requires : goal.sums-least-requires
+sums-least-requires c = search lowest-ranged
+
+pub sums-most-requires : goal.sums-most-requires
+sums-most-requires c = search highest-ranged
+
+pub returns : goal.returns
+returns c = both-made _ _ c.requires c.is_whole-whole.ensures c.highest.ensures c.are_present-known.ensures c.sums-least.ensures c.sums-most.ensures

@@ -1,0 +1,58 @@
+-- The loop's invariant: each sum is that of the ions passed, and no sum of so many ions is above that of all at their greatest.
+use mathlib.Core.Path.{◌≡◌, refl, sym, ap, ap₂, ◌∙◌}
+use Prim.Native.Nat.{ℕ, ◌+◌, ◌-◌, ◌*◌}
+use native.Mathlib.Omega.{arith}
+use Rattle.record.specs.Record.{ions}
+use Rattle.solution.specs.Ions.{cation_charge, anion_charge, conducted, sum}
+use Rattle.solution.specs.ByValue.{amount_at}
+use Rattle.solution.specs.Steps.{Adds}
+use Rattle.solution.proofs.SumLaws.{sum-next}
+use Rattle.solution.proofs.IonLaws.{cations-only, anions-only, conducted-only, next_small, cations-next, anions-next, conductivity-next}
+use Rattle.solution.proofs.ions.sums_of.Goals as goal
+
+pub loop-i-init : goal.loop-i-init
+unfolding sum
+loop-i-init c = (omega arith, refl, refl, refl)
+
+pub of_ion-ion-requires : goal.of_ion-ion-requires
+of_ion-ion-requires c = (omega arith, search next_small)
+
+pub plus-cations-requires : goal.plus-cations-requires
+plus-cations-requires c = search cations-next
+
+pub plus-anions-requires : goal.plus-anions-requires
+plus-anions-requires c = search anions-next
+
+pub plus-conductivity-requires : goal.plus-conductivity-requires
+plus-conductivity-requires c = search conductivity-next
+
+pub overflow_add-i : goal.overflow_add-i
+overflow_add-i c = omega arith
+
+pub loop-i-smaller : goal.loop-i-smaller
+loop-i-smaller c = omega arith
+
+pub loop-i-preserved : goal.loop-i-preserved
+loop-i-preserved c =
+    let at = c.loop-i in
+    let args = c.args in
+    let a = amount_at args.greatest args.analytes in
+    let i = at.i in
+    let adds : Adds i (a i) c.of_ion-ion.result = rw c.at_end.ensures at c.of_ion-ion.ensures in (
+      omega arith,
+      c.plus-cations.ensures ∙ ap₂ (λ (x y : ℕ). x + y) at.invariant.1 adds.cation ∙ sym (sum-next (λ k. cation_charge k * a k) i),
+      c.plus-anions.ensures ∙ ap₂ (λ (x y : ℕ). x + y) at.invariant.2 adds.anion ∙ sym (sum-next (λ k. anion_charge k * a k) i),
+      c.plus-conductivity.ensures ∙ ap₂ (λ (x y : ℕ). x + y) at.invariant.3 adds.conductivity ∙ sym (sum-next (λ k. conducted k * a k) i),
+    )
+
+pub returns : goal.returns
+returns c =
+    let args = c.args in
+    let a = amount_at args.greatest args.analytes in
+    let at = c.loop-i in
+    let e : at.i ≡ ions = omega arith in
+    record {
+      cations = at.invariant.1 ∙ ap (sum (λ k. cation_charge k * a k)) e ∙ sym (cations-only a);
+      anions = at.invariant.2 ∙ ap (sum (λ k. anion_charge k * a k)) e ∙ sym (anions-only a);
+      conductivity = at.invariant.3 ∙ ap (sum (λ k. conducted k * a k)) e ∙ sym (conducted-only a);
+    }
