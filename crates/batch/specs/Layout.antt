@@ -1,6 +1,6 @@
 -- Document 01, 'A batch': the words of a batch that is given as a value; and the statement that reading and writing undo each
 -- other.
-use Rattle.std.specs.Prelude.{◌≡◌, List, ◌++◌, ℕ, ◌+◌, ◌≤◌, length}
+use Rattle.std.specs.Prelude.{◌≡◌, List, ◌++◌, ℕ, ◌≤◌, length}
 use Rattle.refusal.specs.Outcome.Outcome.{given}
 use Rattle.judge.specs.Judgements.{judgement_of}
 use Rattle.words.specs.Each.{Every}

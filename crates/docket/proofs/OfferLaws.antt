@@ -1,7 +1,7 @@
 -- What is done in each of the three cases is the offer as defined. In that of a repeat the record held is never tested for
 -- itself: its comparison with the repeat does that.
 use mathlib.Core.Path.{◌≡◌, ◌∙◌}
-use mathlib.Core.Bool.{Bool, true, false, and-false}
+use mathlib.Core.Bool.{Bool, true, false}
 use mathlib.Core.List.{List}
 use Prim.Native.Nat.{ℕ, ◌≤◌, ◌<◌}
 use borrow.Author.Tests.{lt-ltb, le-ltb}

@@ -7,7 +7,6 @@ use native.Mathlib.Omega.{arith}
 use lib.Dec.{eqb}
 use lib.ListN.{length, length-append, length-map}
 use borrow.Author.Tests.{le-leb}
-use Rattle.refusal.proofs.Testing.{both}
 use Rattle.chart.specs.Values.{least_setup, most_setup, most_later, counts_fit}
 use Rattle.chart.proofs.ValueLaws.{counts-within, values-append}
 use Rattle.words.specs.Each.{Every, EachAfter}

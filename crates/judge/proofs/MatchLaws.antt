@@ -2,22 +2,18 @@
 -- cases.
 use mathlib.Core.Path.{◌≡◌, refl, ap}
 use mathlib.Core.Bool.{true, false}
-use mathlib.Core.Logic.{◌⊎◌, ⊎_elim}
-use native.Mathlib.Omega.{arith}
-use denote.Enum.Declared.{tag_of}
 use Rattle.reading.specs.declared.Reading.{Reading}
 use Rattle.reading.specs.declared.Reading.TheVariants.{Missing, Measured, Below}
 use Rattle.reading.specs.Analytes.{present}
-use Rattle.reading.specs.contracts.Reading.{the_type}
 
--- measured or below, by the place of the case from 0
+-- measured or below
 abbrev pub There : Reading → Type 0
-There r = (tag_of the_type r ≡ 1) ⊎ (tag_of the_type r ≡ 2)
+There r = r ≡ Missing → ⊥
 
 pub is-missing : {r : Reading} → r ≡ Missing → present r ≡ false
 is-missing e = ap present e
 
 pub is-there : (r : Reading) → There r → present r ≡ true
-is-there Missing t = absurd (⊎_elim (λ e. omega arith) (λ e. omega arith) t)
+is-there Missing t = absurd (t refl)
 is-there (Measured x) t = refl
 is-there (Below x) t = refl

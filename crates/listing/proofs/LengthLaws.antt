@@ -41,6 +41,8 @@ some_digits (width ∷ widths) = leb 1 width.digits && some_digits widths
 line-fits : (widths : List Width) (fields : List ℕ) → some_digits widths ≡ true → FieldsFit widths fields → length (line fields) ≤ longest_line widths
 unfolding some_digits
 line-fits [] [] some fit = omega (arith, length_none)
+line-fits [] (field ∷ rest) some fit = elim fit [ ]
+line-fits (width ∷ widths) [] some fit = elim fit [ ]
 line-fits (width ∷ widths) (field ∷ rest) some fit =
     let each = both (leb 1 width.digits) (some_digits widths) some in
     omega (

@@ -5,9 +5,9 @@ ghost use Rattle.refusal.specs.Outcome.Outcome.{given};
 ghost use Rattle.refusal.specs.Lent.{lent_after, placed};
 ghost use Rattle.batch.specs.Rows.{row_widths, row_words, row_at, row_fields};
 ghost use Rattle.listing.specs.Decimal.{decimal};
-ghost use Rattle.listing.specs.Listing.{ending as Listing·ending, row_line, listing_text, refused_text};
+ghost use Rattle.listing.specs.Listing.{ending, row_line, listing_text, refused_text};
 
-use crate::decimal;
+use crate::{decimal, lending};
 use batch::ROW_WORDS;
 use batch::widths::{NUMBER_WORDS, ROW_FIELDS};
 use record::number;
@@ -41,7 +41,7 @@ pub fn put_refusal(text: &mut [u8], why: Refusal) -> usize
     ensures value { result ≡ length (refused_text (number_of why)) }
     ensures text_after { text.new ≡ lent_after (given (refused_text (number_of why))) text.old }
 {
-    let next = bytes::copy(b"refused ", text);
+    let next = lending::copy(b"refused ", text);
     put_field(text, next, why.number() as u64, 0)
 }
 
@@ -77,9 +77,9 @@ fn field(words: &[u32], from: usize, i: usize) -> u64
 
 // A field, and the byte that ends it, by how many fields come after it on its line.
 fn put_field(text: &mut [u8], at: usize, n: u64, after: usize) -> usize
-    requires { at + length (decimal n ++ (Listing·ending after ∷ [])) ≤ length text.old }
-    ensures value { result ≡ at + length (decimal n ++ (Listing·ending after ∷ [])) }
-    ensures text_after { text.new ≡ placed text.old at (decimal n ++ (Listing·ending after ∷ [])) }
+    requires { at + length (decimal n ++ (ending after ∷ [])) ≤ length text.old }
+    ensures value { result ≡ at + length (decimal n ++ (ending after ∷ [])) }
+    ensures text_after { text.new ≡ placed text.old at (decimal n ++ (ending after ∷ [])) }
 {
     let next = decimal::put_number(text, at, n);
     text[next] = ending(after);
@@ -88,7 +88,7 @@ fn put_field(text: &mut [u8], at: usize, n: u64, after: usize) -> usize
 
 // A space where others come after it, else the newline.
 fn ending(after: usize) -> u8
-    ensures { result ≡ Listing·ending after }
+    ensures { result ≡ ending after }
 {
     if after == 0 { b'\n' } else { b' ' }
 }

@@ -22,7 +22,10 @@ overflow_add-most c = omega (arith, c.floor-most.ensures, floor-most c.lower-low
 pub returns : goal.returns
 returns c =
     let least : ℕ = c.args.least.0 in
-    let greatest : ℕ = c.args.greatest.0 in record { answer = ap₂ Between
+    let greatest : ℕ = c.args.greatest.0 in record {
+      answer = ap₂ Between
           (lower-end-from greatest c.upper.ensures.answer c.upper-upper.ensures.answer c.floor.ensures)
           (upper-end-from least c.lower-near.ensures.answer c.lower-lower.ensures.answer c.floor-most.ensures)
-          ∙ sym (bracket-given least greatest (search rules) (search rules)); truth = bracketed least greatest }
+          ∙ sym (bracket-given least greatest (search rules) (search rules));
+      truth = bracketed least greatest;
+    }

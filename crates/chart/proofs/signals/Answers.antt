@@ -1,7 +1,6 @@
 -- The tests' answer says whether the values are valid; where it is, the loop writes a word a turn and leaves the rest.
 use mathlib.Core.Path.{refl, ◌∙◌}
 use native.Mathlib.Omega.{arith}
-use Prim.Native.Nat.{◌-◌}
 use lib.ListN.{length-set}
 use Rattle.chart.specs.Steps.{terms_of}
 use Rattle.refusal.proofs.LentLaws.{refused-before}
@@ -37,12 +36,11 @@ word-requires c =
     record { has_room = rw c.of_values-prepared.ensures (setup-has-room valid); i_in_bounds = (c.loop-i-test.true, later-in-room valid) }
 
 pub loop-i-preserved : goal.loop-i-preserved
-loop-i-preserved c =
-    (
-      search rules,
-      length-set c.loop-i.out c.loop-i.i c.word.result ∙ c.loop-i.invariant.1,
-      one_more _ _ _ c.loop-i.out c.loop-i.i c.word.result (omega arith) c.loop-i.invariant.2 c.word.ensures,
-    )
+loop-i-preserved c = (
+  search rules,
+  length-set c.loop-i.out c.loop-i.i c.word.result ∙ c.loop-i.invariant.1,
+  one_more _ _ _ c.loop-i.out c.loop-i.i c.word.result (omega arith) c.loop-i.invariant.2 c.word.ensures,
+)
 
 pub shape_of-out : goal.shape_of-out
 shape_of-out c = c.loop-i.invariant.1

@@ -2,7 +2,6 @@
 use borrow.Author.Rules.{rules}
 use native.Mathlib.Omega.{arith}
 use mathlib.Core.Path.{sym, ◌∙◌}
-use Prim.Native.Nat.{◌-◌}
 use Rattle.words.specs.Words.{bytes_of}
 use Rattle.words.proofs.PackedLaws.{length-bytes, byte-at, words_back}
 use Rattle.words.proofs.PlacingLaws.{count, put-none, put-more, put_all}

@@ -1,6 +1,6 @@
 use Prim.Native.Nat.{◌-◌, ◌≤◌}
 use Rattle.words.specs.Words.{bytes_of}
-use Rattle.words.proofs.PlacingLaws.{Put, count}
+use Rattle.words.proofs.PlacingLaws.{Put}
 use Rattle.words.proofs.pack.Given as goal
 
 abbrev pub invariant-loop-i : goal.invariant-loop-i

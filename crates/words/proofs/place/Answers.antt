@@ -1,7 +1,6 @@
 -- After i turns the first i words are in their places.
 use borrow.Author.Rules.{rules}
 use mathlib.Core.Path.{refl}
-use Prim.Native.Nat.{◌-◌}
 use Rattle.words.proofs.PlacingLaws.{put-none, put-more, put_all}
 use Rattle.words.proofs.place.Goals as goal
 

@@ -2,7 +2,6 @@
 use borrow.Author.Rules.{rules}
 use native.Mathlib.Omega.{arith}
 use mathlib.Core.Path.{sym, ◌∙◌}
-use Prim.Native.Nat.{◌-◌}
 use Rattle.words.specs.Words.{words_of}
 use Rattle.words.proofs.PackedLaws.{length-words, word-at}
 use Rattle.words.proofs.PlacingLaws.{count, put-none, put-more, put_all}

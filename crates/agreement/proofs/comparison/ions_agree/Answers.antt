@@ -1,7 +1,5 @@
 -- The loop has seen only ions that agree; it is left at the first that does not.
 use mathlib.Core.Path.{◌≡◌, sym}
-use mathlib.Core.Bool.{true}
-use Prim.Native.Nat.{◌-◌}
 use native.Mathlib.Omega.{arith}
 use Rattle.refusal.proofs.Testing.{failed, passed}
 use Rattle.record.specs.Record.{ions}

@@ -1,5 +1,4 @@
 -- Whether all values so far rise, or all fall, and the values from place k − 1 on, decide.
-use Prim.Native.Nat.{◌-◌}
 use Rattle.chart.proofs.OrderLaws.{none_seen, one_more, all_seen}
 use Rattle.chart.proofs.rules.in_order.Goals as goal
 

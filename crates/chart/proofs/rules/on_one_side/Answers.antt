@@ -1,5 +1,4 @@
 -- Whether all values so far are above, or all below, and the values from place k on, decide.
-use Prim.Native.Nat.{◌-◌}
 use native.Mathlib.Omega.{arith}
 use Rattle.chart.proofs.EveryLaws.{none_seen, one_more, all_seen}
 use Rattle.chart.proofs.RoomLaws.{room_at, times-most}

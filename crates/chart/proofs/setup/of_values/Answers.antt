@@ -1,6 +1,5 @@
 -- After i turns the sums and those of the values from place i on make the whole sums, whose bounds are known.
 use native.Mathlib.Omega.{arith}
-use Prim.Native.Nat.{◌-◌}
 use Rattle.chart.proofs.RoomLaws.{sums-fit, limit-fits}
 use Rattle.chart.proofs.SumLaws.{none, one_more, whole}
 use Rattle.chart.proofs.setup.of_values.Goals as goal

@@ -1,6 +1,5 @@
 -- Whether all words so far are values, and the words from place i on, decide.
 use mathlib.Core.Path.{sym}
-use Prim.Native.Nat.{◌-◌}
 use Rattle.chart.proofs.EveryLaws.{none_seen, one_more, all_seen}
 use Rattle.chart.proofs.values.are_values.Goals as goal
 

@@ -1,5 +1,4 @@
 -- The charts that are left give the whole: those before the index are read, and their columns are held.
-use Prim.Native.Nat.{◌-◌}
 use native.Mathlib.Omega.{arith}
 use Rattle.chart_section.proofs.ColumnLaws.{charts-begun, charts-refused, charts-next, answer-whole, answer-refused}
 use Rattle.chart_section.proofs.charts.read_all.Goals as goal

@@ -1,6 +1,5 @@
 -- The element is among those used as it is among those the loop has not seen; it is left at the first that is the same.
 use mathlib.Core.Path.{refl, sym, ◌∙◌}
-use Prim.Native.Nat.{◌-◌}
 use Rattle.chart_section.proofs.ElementLaws.{member-found, member-next, member-none}
 use borrow.Author.Rules.{rules}
 use Rattle.chart_section.proofs.elements.is_member.Goals as goal

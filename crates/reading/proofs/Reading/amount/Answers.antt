@@ -25,6 +25,9 @@ returns-then-not-is_present c = record { answer = none-missing c.args.self (sym 
 
 pub returns : goal.returns
 returns c =
-    record { answer = ap (λ (a : Analyte). given (Amount.mass a.mass.0)) c.of_reading-analyte.ensures
+    record {
+      answer = ap (λ (a : Analyte). given (Amount.mass a.mass.0)) c.of_reading-analyte.ensures
           ∙ mass-there c.args.self (passed c.is_in_range.ensures c.if-not-is_in_range.false-raw)
-          (sym (ap there c.of_reading-analyte.ensures) ∙ passed c.is_present.ensures c.if-not-is_present.false-raw); laws = amount-laws }
+          (sym (ap there c.of_reading-analyte.ensures) ∙ passed c.is_present.ensures c.if-not-is_present.false-raw);
+      laws = amount-laws;
+    }

@@ -1,6 +1,6 @@
 -- Below the exponent's field 100 nothing is left; from there on one shift and one halving round the exact value.
 use mathlib.Core.Path.{sym}
-use Prim.Native.Nat.{ℕ, ◌<◌, ◌+◌, ◌-◌, ◌/◌, ◌^◌}
+use Prim.Native.Nat.{ℕ, ◌<◌, ◌+◌, ◌/◌, ◌^◌}
 use native.Mathlib.Nat.{div-le_self}
 use native.Mathlib.Omega.{arith}
 use lib.Dec.{lit≤}

@@ -1,7 +1,7 @@
 -- An f32 in range is the float of its own pattern, whose mass is the definition's.
 use mathlib.Core.Path.{sym, ap, ◌∙◌, subst}
 use lib.Dec.{T}
-use lib.Ieee.{binary32, fits}
+use lib.Ieee.{binary32}
 use lib.Ieee.Bits.{of_bits-to_bits}
 use Rattle.reading.specs.Amounts.{value_mass}
 use Rattle.reading.proofs.RangeLaws.{of-pattern, not-nan}

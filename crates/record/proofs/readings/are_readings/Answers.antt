@@ -1,7 +1,5 @@
 -- The readings passed are readings; it is left at the first that is none.
 use mathlib.Core.Path.{◌≡◌, sym}
-use mathlib.Core.Bool.{true}
-use Prim.Native.Nat.{◌-◌}
 use native.Mathlib.Omega.{arith}
 use Rattle.refusal.proofs.Testing.{failed, passed}
 use Rattle.record.specs.Record.{readings}

@@ -1,7 +1,6 @@
 -- Whether all ions so far are there.
 use mathlib.Core.Path.{◌≡◌, sym, ap, ap₂, ◌∙◌}
 use mathlib.Core.Bool.{Bool, ◌&&◌}
-use Prim.Native.Nat.{◌-◌}
 use native.Mathlib.Omega.{arith}
 use Rattle.record.specs.Record.{ions, all_below}
 use Rattle.record.proofs.AllBelow.{all_none, all-next}

@@ -1,6 +1,6 @@
 -- The loop's invariant: the strength is that of the ions passed, and none of so many ions is above that of all at their greatest.
 use mathlib.Core.Path.{◌≡◌, refl, sym, ap, ap₂, ◌∙◌}
-use Prim.Native.Nat.{ℕ, ◌+◌, ◌-◌, ◌*◌}
+use Prim.Native.Nat.{ℕ, ◌+◌, ◌*◌}
 use native.Mathlib.Omega.{arith}
 use Rattle.record.specs.Record.{ions}
 use Rattle.solution.specs.Ions.{strength_added, sum}

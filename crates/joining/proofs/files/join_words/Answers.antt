@@ -1,0 +1,25 @@
+-- The joined words are made in the buffer, and lent as bytes.
+use mathlib.Core.Path.{refl, ap}
+use lib.ListN.{replicate}
+use Rattle.refusal.specs.Lent.{written_outcome}
+use Rattle.batch.specs.Input.{most_words}
+use Rattle.joining.proofs.FileLaws.{made_inside, made_bytes, none_made}
+use borrow.Author.Rules.{rules}
+use Rattle.joining.proofs.files.join_words.Goals as goal
+
+pub slice_bounds-lend-end : goal.slice_bounds-lend-end
+slice_bounds-lend-end c =
+    let inside = made_inside _ _ (replicate most_words 0) refl c.join.ensures.answer (ap written_outcome c.in-Length.is) c.join.ensures.lent in
+    search rules
+
+pub returns-in-Length : goal.returns-in-Length
+returns-in-Length c =
+    record {
+      answer = (made_bytes _ _ (replicate most_words 0) refl c.join.ensures.answer (ap written_outcome c.in-Length.is) c.join.ensures.lent
+          c.args.out.now _ _ (c.lend.ensures.answer, c.lend.ensures.lent)).0;
+      lent = (made_bytes _ _ (replicate most_words 0) refl c.join.ensures.answer (ap written_outcome c.in-Length.is) c.join.ensures.lent
+          c.args.out.now _ _ (c.lend.ensures.answer, c.lend.ensures.lent)).1;
+    }
+
+pub returns-in-Refused : goal.returns-in-Refused
+returns-in-Refused c = record { answer = (none_made _ _ (replicate most_words 0) refl c.join.ensures.answer c.args.out.now (ap written_outcome c.in-Refused.is)).0; lent = (none_made _ _ (replicate most_words 0) refl c.join.ensures.answer c.args.out.now (ap written_outcome c.in-Refused.is)).1 }

@@ -1,0 +1,29 @@
+-- Refused by the length of the bytes, or the text of their words; the array has room for every text.
+use native.Mathlib.Omega.{arith}
+use Rattle.refusal.specs.declared.Refusal.TheVariants as refusal
+use Rattle.refusal.specs.Numbers.{number_of}
+use Rattle.refusal.proofs.Testing.{failed, passed}
+use Rattle.batch.proofs.InputLaws.{input-within}
+use Rattle.listing.proofs.LengthLaws.{refused-fits}
+use Rattle.listing.proofs.TextLaws.{text-refused-first, text-judged, text-written}
+use Rattle.listing.proofs.text_of.Goals as goal
+
+pub put_refusal-requires : goal.put_refusal-requires
+put_refusal-requires c = omega (arith, refused-fits (number_of refusal.BatchLength), c.put_refusal-arg-1.given.0.1)
+
+pub returns-then-not-is_input : goal.returns-then-not-is_input
+returns-then-not-is_input c =
+    let a = c.args in
+    let e = text-refused-first a.bytes.now (failed c.is_input.ensures c.if-not-is_input.true-raw) in
+    record { answer = (text-written a.bytes.now a.text.now e c.put_refusal.ensures.value c.put_refusal.ensures.text_after).0; lent = (text-written a.bytes.now a.text.now e c.put_refusal.ensures.value c.put_refusal.ensures.text_after).1.0; within = (text-written a.bytes.now a.text.now e c.put_refusal.ensures.value c.put_refusal.ensures.text_after).1.1.0; fits = (text-written a.bytes.now a.text.now e c.put_refusal.ensures.value c.put_refusal.ensures.text_after).1.1.1 }
+
+pub put_text-requires : goal.put_text-requires
+put_text-requires c =
+    let bytes = c.args.bytes.now in
+    record { most_text_in_bounds = omega (arith, c.put_text-arg-1.given.0.1); bytes_len_bound = input-within bytes (passed c.is_input.ensures c.if-not-is_input.false-raw) }
+
+pub returns : goal.returns
+returns c =
+    let a = c.args in
+    let e = text-judged a.bytes.now (passed c.is_input.ensures c.if-not-is_input.false-raw) in
+    record { answer = (text-written a.bytes.now a.text.now e c.put_text.ensures.value c.put_text.ensures.text_after).0; lent = (text-written a.bytes.now a.text.now e c.put_text.ensures.value c.put_text.ensures.text_after).1.0; within = (text-written a.bytes.now a.text.now e c.put_text.ensures.value c.put_text.ensures.text_after).1.1.0; fits = (text-written a.bytes.now a.text.now e c.put_text.ensures.value c.put_text.ensures.text_after).1.1.1 }
