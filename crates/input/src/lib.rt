@@ -64,3 +64,44 @@ fn lesser(a: usize, b: usize) -> usize
 {
     if a < b { a } else { b }
 }
+
+#[cfg(test)]
+mod tests {
+    use super::*;
+    use std::io;
+    use std::io::ErrorKind;
+
+    // Gives its bytes one at a time, and then fails.
+    #[derive(Drop)]
+    struct Failing<'a> {
+        bytes: &'a [u8],
+    }
+
+    impl<'a> Read for Failing<'a> {
+        fn read(&mut self, buf: &mut [u8]) -> io::Result<usize> {
+            if buf.is_empty() {
+                return Ok(0);
+            }
+            let Some((first, rest)) = self.bytes.split_first() else {
+                return Err(io::Error::from(ErrorKind::BrokenPipe));
+            };
+            buf[0] = *first;
+            self.bytes = rest;
+            Ok(1)
+        }
+    }
+
+    // A read that brings less than was asked for ends nothing; one that fails ends the input.
+    #[test]
+    fn reads_on_until_a_read_fails(rt: HostRuntime) {
+        let mut reader = Failing {
+            bytes: &[1, 2, 3, 4, 5, 6],
+        };
+        let mut words = [9u32; 3];
+        let got = read(&mut reader, &mut words);
+        assert_eq!(rt; got.bytes, 6);
+        assert_eq!(rt; got.words, 1);
+        assert_eq!(rt; words, [0x04030201, 9, 9]);
+        assert_eq!(rt; read(&mut reader, &mut words).bytes, 0);
+    }
+}
