@@ -83,13 +83,20 @@ fn path_of<'a>(rt: &impl Env, argument: usize, space: &'a mut [u8]) -> io::Resul
     }
 }
 
-// Reads until the slice is full or the file ends. An error ends it too, and then one more read is expected to meet it again; if it
-// does not, the file was cut short, and its batch is refused 8.
+// Opens a file and reads it.
 fn read_file(rt: &impl Files, path: &str, bytes: &mut [u8]) -> io::Result<usize>
     ensures { IfOk result (λ count. count ≤ length bytes.new) }
 {
     let mut file = File::open(rt, path)?;
-    let count = input::read_full(&mut file, bytes);
+    fill(&mut file, bytes)
+}
+
+// Reads until the slice is full or the file ends. An error ends it too, and then one more read is expected to meet it again; if it
+// does not, the file was cut short, and its batch is refused 8.
+fn fill(file: &mut impl Read, bytes: &mut [u8]) -> io::Result<usize>
+    ensures { IfOk result (λ count. count ≤ length bytes.new) }
+{
+    let count = input::read_full(file, bytes);
     let mut next = [0u8; 1];
     file.read(&mut next)?;
     Ok(count)
