@@ -3,7 +3,8 @@
 #![tactic(auto)]
 
 use docket::{Answer, Docket, State};
-use libc::STDOUT_FILENO;
+use std::io;
+use std::io::Read;
 
 // The docket after a turn, and whether the input may hold more.
 #[derive(Clone, Copy)]
@@ -12,71 +13,58 @@ struct Turn {
     more: bool,
 }
 
-fn print_answer(answer: Answer) {
+fn print_answer(rt: &impl Print, answer: Answer) -> io::Result<()> {
     match answer {
-        Answer::Taken => {
-            io::write_all(STDOUT_FILENO, b"taken ");
-        }
+        Answer::Taken => print!(rt; "taken "),
         Answer::Refused(why) => {
-            io::write_all(STDOUT_FILENO, b"refused ");
-            io::print_decimal(STDOUT_FILENO, why.number() as u64);
-            io::write_all(STDOUT_FILENO, b" ");
+            let number = why.number();
+            print!(rt; "refused {number} ")
         }
     }
 }
 
-fn print_state(state: State) {
+fn print_state(rt: &impl Print, state: State) -> io::Result<()> {
     match state {
-        State::Open => {
-            io::write_all(STDOUT_FILENO, b"open ");
-        }
-        State::Consistent => {
-            io::write_all(STDOUT_FILENO, b"consistent ");
-        }
-        State::Confirmed => {
-            io::write_all(STDOUT_FILENO, b"confirmed ");
-        }
-        State::Unsettled => {
-            io::write_all(STDOUT_FILENO, b"unsettled ");
-        }
+        State::Open => print!(rt; "open "),
+        State::Consistent => print!(rt; "consistent "),
+        State::Confirmed => print!(rt; "confirmed "),
+        State::Unsettled => print!(rt; "unsettled "),
     }
 }
 
 // Reads a record, offers it and prints its line.
-fn offer_next(before: Docket) -> Turn {
+fn offer_next(rt: &impl Print, reader: &mut impl Read, before: Docket) -> io::Result<Turn> {
     let mut words = [0u32; record::WORDS];
-    let got = input::read(&mut words);
+    let got = input::read(reader, &mut words);
     if got.bytes == 0 {
-        return Turn {
+        return Ok(Turn {
             docket: before,
             more: false,
-        };
+        });
     }
-    let count = got.words;
-    let offered = docket::offer(before, &words[0..count]);
-    let answer = offered.answer;
-    print_answer(answer);
+    let whole = got.words;
+    let offered = docket::offer(before, &words[0..whole]);
+    print_answer(rt, offered.answer)?;
     let after = offered.docket;
-    let state = after.state;
-    print_state(state);
-    io::print_decimal(STDOUT_FILENO, after.count as u64);
-    io::write_all(STDOUT_FILENO, b"\n");
-    Turn {
+    print_state(rt, after.state)?;
+    let count = after.count;
+    println!(rt; "{count}")?;
+    Ok(Turn {
         docket: after,
-        more: count == record::WORDS,
-    }
+        more: whole == record::WORDS,
+    })
 }
 
-// A proved loop has to end, and nothing says that the input does. So the turns are counted down, from a number that no
-// run uses up.
-fn main() {
+// A loop has to end, and nothing says that the input does. So the turns are bounded, by a number that no run uses up.
+fn main(rt: HostRuntime) -> io::Result<()> {
+    let mut reader = rt.reader();
     let mut docket = docket::fresh();
-    let mut turns = u64::MAX;
-    let mut more = true;
-    while turns > 0 && more {
-        let next = offer_next(docket);
+    for _ in 0..u64::MAX {
+        let next = offer_next(&rt, &mut reader, docket)?;
         docket = next.docket;
-        more = next.more;
-        turns -= 1;
+        if !next.more {
+            break;
+        }
     }
+    Ok(())
 }

@@ -4,7 +4,7 @@
 ghost use Rattle.std.specs.Prelude.{◌≤◌, length};
 ghost use Rattle.input.specs.Input.{most_bytes, Came};
 
-use libc::STDIN_FILENO;
+use std::io::Read;
 use words::WORD_BYTES;
 
 // The most words that one call reads.
@@ -21,22 +21,22 @@ pub struct Got {
 
 // Fills `words`, or the first MOST_WORDS of them, as far as the input goes. That the whole words that came are within the slice
 // follows from the first promise, and is said for the caller who lends that part of it.
-pub fn read(words: &mut [u32]) -> Got
+pub fn read<R: Read>(input: &mut R, words: &mut [u32]) -> Got
     ensures came { Came words.old words.new result }
     ensures inside { result.words ≤ length words.new }
 {
     let wanted = lesser(words.len(), MOST_WORDS) * WORD_BYTES;
     let mut buffer = [0u8; MOST_BYTES];
-    fill(words, &mut buffer, wanted)
+    fill(input, words, &mut buffer, wanted)
 }
 
 // The same through a buffer, for so many bytes.
-fn fill(words: &mut [u32], buffer: &mut [u8], wanted: usize) -> Got
+fn fill<R: Read>(input: &mut R, words: &mut [u32], buffer: &mut [u8], wanted: usize) -> Got
     requires { (wanted ≤ length buffer.old) × (wanted ≤ most_bytes words.old) }
     ensures came { Came words.old words.new result }
     ensures inside { result.words ≤ length words.new }
 {
-    let got = io::read_full(STDIN_FILENO, &mut buffer[0..wanted]);
+    let got = read_full(input, &mut buffer[0..wanted]);
     let whole = words::unpack(&buffer[0..got], words);
     Got {
         bytes: got,
@@ -44,8 +44,64 @@ fn fill(words: &mut [u32], buffer: &mut [u8], wanted: usize) -> Got
     }
 }
 
+// Reads until the bytes are full or the input ends, and answers how many came. A read that fails ends the input too.
+pub fn read_full<R: Read>(input: &mut R, bytes: &mut [u8]) -> usize
+    ensures inside { result ≤ length bytes.new }
+{
+    let mut done = 0;
+    while done < bytes.len() {
+        let came = input.read(&mut bytes[done..]).unwrap_or(0);
+        if came == 0 {
+            break;
+        }
+        done += came;
+    }
+    done
+}
+
 fn lesser(a: usize, b: usize) -> usize
     ensures { (result ≤ a) × (result ≤ b) }
 {
     if a < b { a } else { b }
+}
+
+#[cfg(test)]
+mod tests {
+    use super::*;
+    use std::io;
+    use std::io::ErrorKind;
+
+    // Gives its bytes one at a time, and then fails.
+    #[derive(Drop)]
+    struct Failing<'a> {
+        bytes: &'a [u8],
+    }
+
+    impl<'a> Read for Failing<'a> {
+        fn read(&mut self, buf: &mut [u8]) -> io::Result<usize> {
+            if buf.is_empty() {
+                return Ok(0);
+            }
+            let Some((first, rest)) = self.bytes.split_first() else {
+                return Err(io::Error::from(ErrorKind::BrokenPipe));
+            };
+            buf[0] = *first;
+            self.bytes = rest;
+            Ok(1)
+        }
+    }
+
+    // A read that brings less than was asked for ends nothing; one that fails ends the input.
+    #[test]
+    fn reads_on_until_a_read_fails(rt: HostRuntime) {
+        let mut reader = Failing {
+            bytes: &[1, 2, 3, 4, 5, 6],
+        };
+        let mut words = [9u32; 3];
+        let got = read(&mut reader, &mut words);
+        assert_eq!(rt; got.bytes, 6);
+        assert_eq!(rt; got.words, 1);
+        assert_eq!(rt; words, [0x04030201, 9, 9]);
+        assert_eq!(rt; read(&mut reader, &mut words).bytes, 0);
+    }
 }

@@ -2,55 +2,64 @@
 // `refused N`. What keeps it from reading two files it says on standard error, and then writes nothing else.
 #![tactic(auto)]
 
+mod failure;
 mod reading;
 
 use batch::input::MOST_BYTES;
-use libc::{STDERR_FILENO, STDOUT_FILENO};
 use refusal::{Refusal, Written};
+use std::env::FillError;
+use std::io;
+use std::rt::Env;
 
 // One byte more than the longest batch has, so that a longer file is seen to be longer and refused, never cut.
 const ROOM: usize = MOST_BYTES + 1;
 
-fn print_refused(why: Refusal) {
-    io::write_all(STDOUT_FILENO, b"refused ");
-    io::print_decimal(STDOUT_FILENO, why.number() as u64);
-    io::write_all(STDOUT_FILENO, b"\n");
+fn print_refused(rt: &impl Print, why: Refusal) -> io::Result<()> {
+    let number = why.number();
+    println!(rt; "refused {number}")
 }
 
-fn write_file(bytes: &[u8]) {
-    if !io::write_all(STDOUT_FILENO, bytes) {
-        os::fail(b"join: the joined file was not written");
+fn write_file(rt: &(impl Print + Eprint), bytes: &[u8]) -> io::Result<()> {
+    match rt.write_all(bytes) {
+        Ok(()) => Ok(()),
+        Err(why) => failure::tell(rt, "join: the joined file was not written", why),
     }
 }
 
-fn join(first: &[u8], second: &[u8]) {
+fn join(rt: &(impl Print + Eprint), first: &[u8], second: &[u8]) -> io::Result<()> {
     let mut joined = [0u8; MOST_BYTES];
     match joining::files::join_bytes(first, second, &mut joined) {
-        Written::Length(size) => write_file(&joined[0..size]),
-        Written::Refused(why) => print_refused(why),
+        Written::Length(size) => write_file(rt, &joined[0..size]),
+        Written::Refused(why) => print_refused(rt, why),
     }
 }
 
-fn main() {
-    // The program's own name is counted too.
-    if os::arg_count() != 3 {
-        io::write_all(
-            STDERR_FILENO,
-            b"join: expected two files of little-endian words: join FIRST SECOND\n",
-        );
-        return;
+// Whether there is such an argument. One that is too long to be read is there too.
+fn is_given(rt: &impl Env, argument: usize) -> bool {
+    let mut space = [0u8; 1];
+    match rt.arg(argument, &mut space) {
+        Ok(_) => true,
+        Err(FillError::TooLong) => true,
+        Err(FillError::NotPresent) => false,
+    }
+}
+
+fn main(rt: HostRuntime) -> io::Result<()> {
+    // The program's own name is argument 0.
+    if !is_given(&rt, 2) || is_given(&rt, 3) {
+        return eprintln!(rt; "join: expected two files of little-endian words: join FIRST SECOND");
     }
     let mut first = [0u8; ROOM];
-    let one = reading::read(1, &mut first);
+    let one = reading::read(&rt, 1, &mut first)?;
     if !one.is_read {
-        return;
+        return Ok(());
     }
     let mut second = [0u8; ROOM];
-    let other = reading::read(2, &mut second);
+    let other = reading::read(&rt, 2, &mut second)?;
     if !other.is_read {
-        return;
+        return Ok(());
     }
     let n = one.count;
     let m = other.count;
-    join(&first[0..n], &second[0..m]);
+    join(&rt, &first[0..n], &second[0..m])
 }

@@ -1,28 +1,29 @@
 // The number of each call. A call prints its line and says true, or prints nothing and says false where the words are
 // not what it takes.
 use crate::{batches, control_charts, dockets, floors, joins, readings, records, refusals};
+use std::io;
 
-pub fn answer(call: u32, words: &[u32]) -> bool {
+pub fn answer(rt: &impl Print, call: u32, words: &[u32]) -> io::Result<bool> {
     match call {
-        1 => floors::floor_at(words),
-        2 => readings::from_words(words),
-        3 => readings::to_reading(words),
-        4 => readings::amount(words),
-        5 => readings::words(words),
-        6 => refusals::number(words),
-        7 => records::judge(words),
-        8 => records::agree(words),
-        9 => dockets::offers(words),
-        10 => control_charts::signals(words),
-        11 => control_charts::last_signal(words),
-        12 => batches::judge_batch(words),
-        13 => batches::list(words),
-        14 => records::has_reading(words),
-        15 => records::same_sample(words),
-        16 => dockets::follow(words),
-        17 => joins::join(words),
-        18 => batches::test(words),
-        19 => joins::join_bytes(words),
-        _ => false,
+        1 => floors::floor_at(rt, words),
+        2 => readings::from_words(rt, words),
+        3 => readings::to_reading(rt, words),
+        4 => readings::amount(rt, words),
+        5 => readings::words(rt, words),
+        6 => refusals::number(rt, words),
+        7 => records::judge(rt, words),
+        8 => records::agree(rt, words),
+        9 => dockets::offers(rt, words),
+        10 => control_charts::signals(rt, words),
+        11 => control_charts::last_signal(rt, words),
+        12 => batches::judge_batch(rt, words),
+        13 => batches::list(rt, words),
+        14 => records::has_reading(rt, words),
+        15 => records::same_sample(rt, words),
+        16 => dockets::follow(rt, words),
+        17 => joins::join(rt, words),
+        18 => batches::test(rt, words),
+        19 => joins::join_bytes(rt, words),
+        _ => Ok(false),
     }
 }

@@ -1,54 +1,55 @@
 // The calls of `chart`.
 use crate::{lent, print};
 use chart::Last;
+use std::io;
 
-fn print_last(answer: Last) {
+fn print_last(rt: &impl Print, answer: Last) -> io::Result<()> {
     match answer {
-        Last::Given(signal) => print::word(b"signal ", signal),
-        Last::Refused(why) => print::refused(why),
+        Last::Given(signal) => print::word(rt, "signal ", signal),
+        Last::Refused(why) => print::refused(rt, why),
     }
 }
 
-fn signals_of(setup: u32, room: u32, values: &[u32]) -> bool {
+fn signals_of(rt: &impl Print, setup: u32, room: u32, values: &[u32]) -> io::Result<bool> {
     let n = setup as usize;
     let lent = room as usize;
     if n > values.len() {
-        return false;
+        return Ok(false);
     }
     if lent > lent::MOST_WORDS {
-        return false;
+        return Ok(false);
     }
     let mut space = [0u32; lent::MOST_WORDS];
     // Its start is written out, since the check then knows its length.
     let out = &mut space[0..lent];
     lent::fill(out);
     let answer = chart::signals(&values[0..n], &values[n..], out);
-    lent::print_answer(b"signals ", answer);
-    lent::print_words(out);
-    true
+    lent::print_answer(rt, "signals ", answer)?;
+    lent::print_words(rt, out)?;
+    Ok(true)
 }
 
 // How many setup values, how many words to lend, and the values: the signal words.
-pub fn signals(words: &[u32]) -> bool {
+pub fn signals(rt: &impl Print, words: &[u32]) -> io::Result<bool> {
     if words.len() < 2 {
-        return false;
+        return Ok(false);
     }
-    signals_of(words[0], words[1], &words[2..])
+    signals_of(rt, words[0], words[1], &words[2..])
 }
 
-fn last_signal_of(setup: u32, values: &[u32]) -> bool {
+fn last_signal_of(rt: &impl Print, setup: u32, values: &[u32]) -> io::Result<bool> {
     let n = setup as usize;
     if n > values.len() {
-        return false;
+        return Ok(false);
     }
-    print_last(chart::last_signal(&values[0..n], &values[n..]));
-    true
+    print_last(rt, chart::last_signal(&values[0..n], &values[n..]))?;
+    Ok(true)
 }
 
 // How many setup values, and the values: the signal at the last later value.
-pub fn last_signal(words: &[u32]) -> bool {
+pub fn last_signal(rt: &impl Print, words: &[u32]) -> io::Result<bool> {
     if words.len() == 0 {
-        return false;
+        return Ok(false);
     }
-    last_signal_of(words[0], &words[1..])
+    last_signal_of(rt, words[0], &words[1..])
 }

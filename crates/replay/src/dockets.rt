@@ -3,6 +3,7 @@ ghost use Rattle.std.specs.Prelude.{◌≤◌, ◌<◌, length};
 
 use crate::{lent, print};
 use docket::{Answer, Docket, State};
+use std::io;
 
 fn number_of(answer: Answer) -> u32 {
     match answer {
@@ -21,10 +22,10 @@ fn place_of(state: State) -> u32 {
 }
 
 // An offer that was made: 0 or the number of its refusal, the state's place in document 01's order, and the count.
-fn print_offer(answer: Answer, after: Docket) {
+fn print_offer(rt: &impl Print, answer: Answer, after: Docket) -> io::Result<()> {
     let state = after.state;
-    print::two_numbers(b" ", number_of(answer), place_of(state));
-    print::one_number(b" ", after.count);
+    print::two_numbers(rt, " ", number_of(answer), place_of(state))?;
+    print::one_number(rt, " ", after.count)
 }
 
 fn wide(x: u32) -> usize {
@@ -46,8 +47,8 @@ fn end_of(words: &[u32], at: usize) -> usize
 }
 
 // Counts, each with that many words after it: offers to a fresh docket, in turn.
-pub fn offers(words: &[u32]) -> bool {
-    print::part(b"offers");
+pub fn offers(rt: &impl Print, words: &[u32]) -> io::Result<bool> {
+    print::part(rt, "offers")?;
     let mut docket = docket::fresh();
     let mut at: usize = 0;
     while at < words.len() {
@@ -56,12 +57,12 @@ pub fn offers(words: &[u32]) -> bool {
         let offered = docket::offer(docket, &words[start..end]);
         let answer = offered.answer;
         let next = offered.docket;
-        print_offer(answer, next);
+        print_offer(rt, answer, next)?;
         docket = next;
         at = end;
     }
-    print::text(b"");
-    true
+    print::text(rt, "")?;
+    Ok(true)
 }
 
 // Where the record that starts at a place ends: after its words, or with the slice where fewer are left.
@@ -89,15 +90,15 @@ fn after_all(words: &[u32]) -> Docket {
 }
 
 // Records one after another: the fresh docket after all of them, with the record that it holds if it took any.
-pub fn follow(words: &[u32]) -> bool {
+pub fn follow(rt: &impl Print, words: &[u32]) -> io::Result<bool> {
     let after = after_all(words);
     let state = after.state;
-    print::two_numbers(b"followed ", place_of(state), after.count);
+    print::two_numbers(rt, "followed ", place_of(state), after.count)?;
     if after.count == 0 {
-        print::text(b"");
-        return true;
+        print::text(rt, "")?;
+        return Ok(true);
     }
     let held = after.held;
-    lent::print_words(&held);
-    true
+    lent::print_words(rt, &held)?;
+    Ok(true)
 }

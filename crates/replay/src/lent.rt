@@ -3,6 +3,7 @@ ghost use Rattle.std.specs.Prelude.{◌≤◌, length};
 
 use crate::print;
 use refusal::Written;
+use std::io;
 
 // The old content of a lent word, less its index.
 const OLD: u32 = 900000000;
@@ -27,21 +28,21 @@ pub fn fill(out: &mut [u32])
 }
 
 // What a call answered that wrote to a lent slice, and no end of the line.
-pub fn print_answer(name: &[u8], answer: Written) {
+pub fn print_answer(rt: &impl Print, name: &str, answer: Written) -> io::Result<()> {
     match answer {
-        Written::Length(n) => print::long_number(name, n as u64),
-        Written::Refused(why) => print::one_number(b"refused ", why.number()),
+        Written::Length(n) => print::long_number(rt, name, n as u64),
+        Written::Refused(why) => print::one_number(rt, "refused ", why.number()),
     }
 }
 
 // The words of a lent slice, and the end of the line.
-pub fn print_words(out: &[u32]) {
+pub fn print_words(rt: &impl Print, out: &[u32]) -> io::Result<()> {
     let mut i: usize = 0;
     while i < out.len() {
-        print::one_number(b" ", out[i]);
+        print::one_number(rt, " ", out[i])?;
         i += 1;
     }
-    print::text(b"");
+    print::text(rt, "")
 }
 
 fn wide(byte: u8) -> u32 {
@@ -49,11 +50,11 @@ fn wide(byte: u8) -> u32 {
 }
 
 // Lent bytes as numbers, and the end of the line.
-pub fn print_bytes(out: &[u8]) {
+pub fn print_bytes(rt: &impl Print, out: &[u8]) -> io::Result<()> {
     let mut i: usize = 0;
     while i < out.len() {
-        print::one_number(b" ", wide(out[i]));
+        print::one_number(rt, " ", wide(out[i]))?;
         i += 1;
     }
-    print::text(b"");
+    print::text(rt, "")
 }

@@ -16,41 +16,46 @@ mod readings;
 mod records;
 mod refusals;
 
+use std::io;
+use std::io::Read;
+
 // Reads the words of a case and answers it. Says whether the case was well formed.
-fn answer_case(call: u32, count: u32) -> bool {
+fn answer_case(rt: &impl Print, reader: &mut impl Read, call: u32, count: u32) -> io::Result<bool> {
     let n = count as usize;
     if n > input::MOST_WORDS {
-        return false;
+        return Ok(false);
     }
     let mut words = [0u32; input::MOST_WORDS];
     // Its start is written out, since the check then knows its length.
     let part = &mut words[0..n];
-    let got = input::read(part);
+    let got = input::read(reader, part);
     if got.words < n {
-        return false;
+        return Ok(false);
     }
-    calls::answer(call, part)
+    calls::answer(rt, call, part)
 }
 
 // Reads a case and prints its line. Says whether to go on: not at the end of the input, nor after a malformed case.
-fn replay_case() -> bool {
+fn replay_case(rt: &impl Print, reader: &mut impl Read) -> io::Result<bool> {
     let mut head = [0u32; 2];
-    let got = input::read(&mut head);
+    let got = input::read(reader, &mut head);
     if got.bytes == 0 {
-        return false;
+        return Ok(false);
     }
-    let is_answered = got.words == 2 && answer_case(head[0], head[1]);
+    let is_answered = got.words == 2 && answer_case(rt, reader, head[0], head[1])?;
     if !is_answered {
-        print::text(b"malformed");
+        print::text(rt, "malformed")?;
     }
-    is_answered
+    Ok(is_answered)
 }
 
-// A proved loop has to end, and nothing says that the input does. So the turns are counted down, from a number that no
-// run uses up.
-fn main() {
-    let mut turns = u64::MAX;
-    while turns > 0 && replay_case() {
-        turns -= 1;
+// A loop has to end, and nothing says that the input does. So the turns are bounded, by a number that no run uses up.
+fn main(rt: HostRuntime) -> io::Result<()> {
+    let mut reader = rt.reader();
+    for _ in 0..u64::MAX {
+        if !replay_case(&rt, &mut reader)? {
+            break;
+        }
     }
+    Ok(())
 }

@@ -1,6 +1,7 @@
 // The call of `refusal`.
 use crate::print;
 use refusal::Refusal;
+use std::io;
 
 // How many refusals documents 01 and 02 list.
 const REFUSALS: u32 = 15;
@@ -27,15 +28,15 @@ fn refusal_at(place: u32) -> Refusal {
 }
 
 // A place in the documents' list: the number of the refusal there.
-pub fn number(words: &[u32]) -> bool {
+pub fn number(rt: &impl Print, words: &[u32]) -> io::Result<bool> {
     if words.len() != 1 {
-        return false;
+        return Ok(false);
     }
     let place = words[0];
     if place < 1 || place > REFUSALS {
-        return false;
+        return Ok(false);
     }
     let why = refusal_at(place);
-    print::word(b"number ", why.number());
-    true
+    print::word(rt, "number ", why.number())?;
+    Ok(true)
 }
