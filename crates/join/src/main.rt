@@ -3,7 +3,7 @@
 #![tactic(auto)]
 
 mod failure;
-mod reading;
+mod file;
 
 use batch::input::MOST_BYTES;
 use refusal::{Refusal, Written};
@@ -50,12 +50,12 @@ fn main(rt: HostRuntime) -> io::Result<()> {
         return eprintln!(rt; "join: expected two files of little-endian words: join FIRST SECOND");
     }
     let mut first = [0u8; ROOM];
-    let one = reading::read(&rt, 1, &mut first)?;
+    let one = file::read(&rt, 1, &mut first)?;
     if !one.is_read {
         return Ok(());
     }
     let mut second = [0u8; ROOM];
-    let other = reading::read(&rt, 2, &mut second)?;
+    let other = file::read(&rt, 2, &mut second)?;
     if !other.is_read {
         return Ok(());
     }

@@ -13,11 +13,13 @@ returns-in-Judged c =
     let a = c.args in
     let e : judged_words a.words.now ≡ given c.numbers-answer.result =
     simp (sym c.judge.ensures.answer ∙ ap judgement_outcome c.in-Judged.is) (ap given (sym c.numbers-answer.ensures)) in
-    record { code = (same-fitting a.verdicts.now e (c.lend.ensures.code, c.lend.ensures.after)).0; lent = (same-fitting a.verdicts.now e (c.lend.ensures.code, c.lend.ensures.after)).1 }
+    let said = same-fitting a.verdicts.now e (c.lend.ensures.code, c.lend.ensures.after) in
+    record { code = said.0; lent = said.1 }
 
 pub returns-in-Refused : goal.returns-in-Refused
 unfolding judged_words
 returns-in-Refused c =
     let a = c.args in
     let e : judged_words a.words.now ≡ refused (number_of c.in-Refused.why) = simp (sym c.judge.ensures.answer ∙ ap judgement_outcome c.in-Refused.is) in
-    record { code = (refusing a.verdicts.now e c.number.ensures).0; lent = (refusing a.verdicts.now e c.number.ensures).1 }
+    let said = refusing a.verdicts.now e c.number.ensures in
+    record { code = said.0; lent = said.1 }

@@ -12,11 +12,13 @@ unfolding analysed_words
 returns-in-Given c =
     let a = c.args in
     let e : analysed_words a.value a.limit ≡ reading_words c.in-Given.reading = simp (sym c.to_reading.ensures ∙ ap reading_outcome c.in-Given.is) in
-    record { code = (same-fitting a.words.now e (c.lend_reading.ensures.code, c.lend_reading.ensures.after)).0; lent = (same-fitting a.words.now e (c.lend_reading.ensures.code, c.lend_reading.ensures.after)).1 }
+    let said = same-fitting a.words.now e (c.lend_reading.ensures.code, c.lend_reading.ensures.after) in
+    record { code = said.0; lent = said.1 }
 
 pub returns-in-Refused : goal.returns-in-Refused
 unfolding analysed_words
 returns-in-Refused c =
     let a = c.args in
     let e : analysed_words a.value a.limit ≡ refused (number_of c.in-Refused.why) = simp (sym c.to_reading.ensures ∙ ap reading_outcome c.in-Refused.is) in
-    record { code = (refusing a.words.now e c.number.ensures).0; lent = (refusing a.words.now e c.number.ensures).1 }
+    let said = refusing a.words.now e c.number.ensures in
+    record { code = said.0; lent = said.1 }

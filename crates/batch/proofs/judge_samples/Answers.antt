@@ -4,7 +4,9 @@ use Rattle.batch.proofs.WholeLaws.{made-fits, made-refused, made-over, made-plac
 use Rattle.batch.proofs.judge_samples.Goals as goal
 
 pub returns-then-out-size : goal.returns-then-out-size
-returns-then-out-size c = record { answer = (made-over _ c.make_rows.new.buffer _ c.make_rows.ensures _ c.in-Length.is _ c.if-out-size.true).0; lent = (made-over _ c.make_rows.new.buffer _ c.make_rows.ensures _ c.in-Length.is _ c.if-out-size.true).1 }
+returns-then-out-size c =
+    let said = made-over _ c.make_rows.new.buffer _ c.make_rows.ensures _ c.in-Length.is _ c.if-out-size.true in
+    record { answer = said.0; lent = said.1 }
 
 pub slice_bounds-place-end : goal.slice_bounds-place-end
 slice_bounds-place-end c =
@@ -12,7 +14,11 @@ slice_bounds-place-end c =
     search rules
 
 pub returns-else-out-size : goal.returns-else-out-size
-returns-else-out-size c = record { answer = (made-placed _ c.make_rows.new.buffer _ c.make_rows.ensures _ c.in-Length.is c.args.out.now _ (search rules) c.place.ensures.lent).0; lent = (made-placed _ c.make_rows.new.buffer _ c.make_rows.ensures _ c.in-Length.is c.args.out.now _ (search rules) c.place.ensures.lent).1 }
+returns-else-out-size c =
+    let said = made-placed _ c.make_rows.new.buffer _ c.make_rows.ensures _ c.in-Length.is c.args.out.now _ (search rules) c.place.ensures.lent in
+    record { answer = said.0; lent = said.1 }
 
 pub returns-in-Refused : goal.returns-in-Refused
-returns-in-Refused c = record { answer = (made-refused _ c.make_rows.new.buffer _ c.make_rows.ensures _ _ c.in-Refused.is).0; lent = (made-refused _ c.make_rows.new.buffer _ c.make_rows.ensures _ _ c.in-Refused.is).1 }
+returns-in-Refused c =
+    let said = made-refused _ c.make_rows.new.buffer _ c.make_rows.ensures _ _ c.in-Refused.is in
+    record { answer = said.0; lent = said.1 }

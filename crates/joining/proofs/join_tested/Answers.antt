@@ -53,10 +53,12 @@ pub returns-in-Joined : goal.returns-in-Joined
 returns-in-Joined c =
     let p = parts-of _ c.requires.0 in
     let q = parts-of _ c.requires.1 in
-    record { answer = (joined-answers _ _ p q _ _ c.join_first.ensures _ _ c.in-Joined.is c.add_second-added.result _ c.add_second-added.ensures c.args.out.now _ _ (c.write.ensures.answer, c.write.ensures.lent)).0; lent = (joined-answers _ _ p q _ _ c.join_first.ensures _ _ c.in-Joined.is c.add_second-added.result _ c.add_second-added.ensures c.args.out.now _ _ (c.write.ensures.answer, c.write.ensures.lent)).1 }
+    let said = joined-answers _ _ p q _ _ c.join_first.ensures _ _ c.in-Joined.is c.add_second-added.result _ c.add_second-added.ensures c.args.out.now _ _ (c.write.ensures.answer, c.write.ensures.lent) in
+    record { answer = said.0; lent = said.1 }
 
 pub returns-in-Refused : goal.returns-in-Refused
 returns-in-Refused c =
     let p = parts-of _ c.requires.0 in
     let q = parts-of _ c.requires.1 in
-    record { answer = (first-refused _ _ p q _ _ c.join_first.ensures c.args.out.now _ c.in-Refused.is).0; lent = (first-refused _ _ p q _ _ c.join_first.ensures c.args.out.now _ c.in-Refused.is).1 }
+    let said = first-refused _ _ p q _ _ c.join_first.ensures c.args.out.now _ c.in-Refused.is in
+    record { answer = said.0; lent = said.1 }

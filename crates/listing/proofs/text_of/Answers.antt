@@ -15,7 +15,8 @@ pub returns-then-not-is_input : goal.returns-then-not-is_input
 returns-then-not-is_input c =
     let a = c.args in
     let e = text-refused-first a.bytes.now (failed c.is_input.ensures c.if-not-is_input.true-raw) in
-    record { answer = (text-written a.bytes.now a.text.now e c.put_refusal.ensures.value c.put_refusal.ensures.text_after).0; lent = (text-written a.bytes.now a.text.now e c.put_refusal.ensures.value c.put_refusal.ensures.text_after).1.0; within = (text-written a.bytes.now a.text.now e c.put_refusal.ensures.value c.put_refusal.ensures.text_after).1.1.0; fits = (text-written a.bytes.now a.text.now e c.put_refusal.ensures.value c.put_refusal.ensures.text_after).1.1.1 }
+    let said = text-written a.bytes.now a.text.now e c.put_refusal.ensures.value c.put_refusal.ensures.text_after in
+    record { answer = said.0; lent = said.1.0; within = said.1.1.0; fits = said.1.1.1 }
 
 pub put_text-requires : goal.put_text-requires
 put_text-requires c =
@@ -26,4 +27,5 @@ pub returns : goal.returns
 returns c =
     let a = c.args in
     let e = text-judged a.bytes.now (passed c.is_input.ensures c.if-not-is_input.false-raw) in
-    record { answer = (text-written a.bytes.now a.text.now e c.put_text.ensures.value c.put_text.ensures.text_after).0; lent = (text-written a.bytes.now a.text.now e c.put_text.ensures.value c.put_text.ensures.text_after).1.0; within = (text-written a.bytes.now a.text.now e c.put_text.ensures.value c.put_text.ensures.text_after).1.1.0; fits = (text-written a.bytes.now a.text.now e c.put_text.ensures.value c.put_text.ensures.text_after).1.1.1 }
+    let said = text-written a.bytes.now a.text.now e c.put_text.ensures.value c.put_text.ensures.text_after in
+    record { answer = said.0; lent = said.1.0; within = said.1.1.0; fits = said.1.1.1 }

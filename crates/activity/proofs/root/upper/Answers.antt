@@ -18,18 +18,21 @@ returns-then-not-is_below c =
     let near : ℕ = c.args.near in
     let below : square near < strength = ltb-true _ _ (sym c.is_below.ensures ∙ c.if-is_below.true) in
     let enough : strength ≤ square (near + 1) = ltb-false _ _ (sym c.is_below-then-is_below.ensures ∙ not-true _ c.if-not-is_below.true-raw) in
-    record { answer = (both strength (search rules) (upper-root-is strength near below enough)).0; small = (both strength (search rules) (upper-root-is strength near below enough)).1 }
+    let said = both strength (search rules) (upper-root-is strength near below enough) in
+    record { answer = said.0; small = said.1 }
 
 pub returns-then-is_below-2 : goal.returns-then-is_below-2
 returns-then-is_below-2 c =
     let strength : ℕ = c.args.strength in
     let root : ℕ = c.lower-root.result in
     let below : square root < strength = ltb-true _ _ (sym c.is_below-2.ensures ∙ c.if-is_below-2.true) in
-    record { answer = (both strength (search rules) (upper-root-next strength root c.lower-root.ensures.answer below)).0; small = (both strength (search rules) (upper-root-next strength root c.lower-root.ensures.answer below)).1 }
+    let said = both strength (search rules) (upper-root-next strength root c.lower-root.ensures.answer below) in
+    record { answer = said.0; small = said.1 }
 
 pub returns : goal.returns
 returns c =
     let strength : ℕ = c.args.strength in
     let root : ℕ = c.lower-root.result in
     let enough : strength ≤ square root = ltb-false _ _ (sym c.is_below-2.ensures ∙ c.if-is_below-2.false) in
-    record { answer = (both strength (search rules) (upper-root-same strength root c.lower-root.ensures.answer enough)).0; small = (both strength (search rules) (upper-root-same strength root c.lower-root.ensures.answer enough)).1 }
+    let said = both strength (search rules) (upper-root-same strength root c.lower-root.ensures.answer enough) in
+    record { answer = said.0; small = said.1 }

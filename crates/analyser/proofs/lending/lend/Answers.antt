@@ -9,10 +9,12 @@ use Rattle.analyser.proofs.lending.lend.Goals as goal
 pub returns-then-lent-answer : goal.returns-then-lent-answer
 returns-then-lent-answer c =
     let a = c.args in
-    record { code = (lent-short a.answer.now a.lent.now (search rules) c.number.ensures).0; after = (lent-short a.answer.now a.lent.now (search rules) c.number.ensures).1 }
+    let said = lent-short a.answer.now a.lent.now (search rules) c.number.ensures in
+    record { code = said.0; after = said.1 }
 
 pub returns : goal.returns
 returns c =
     let a = c.args in
     let placed = placed-all a.lent.now 0 a.answer.now (search rules) ∙ placed-front a.lent.now a.answer.now in
-    record { code = (lent-whole a.answer.now a.lent.now (search rules) (c.place.ensures.lent ∙ placed)).0; after = (lent-whole a.answer.now a.lent.now (search rules) (c.place.ensures.lent ∙ placed)).1 }
+    let said = lent-whole a.answer.now a.lent.now (search rules) (c.place.ensures.lent ∙ placed) in
+    record { code = said.0; after = said.1 }

@@ -12,11 +12,13 @@ unfolding reading_words
 returns-in-Given c =
     let a = c.args in
     let e : reading_words a.reading ≡ given (pair_of c.in-Given.words) = simp (sym c.words.ensures.answer ∙ ap words_outcome c.in-Given.is) in
-    record { code = (same-fitting a.lent.now e (c.lend.ensures.code, c.lend.ensures.after)).0; after = (same-fitting a.lent.now e (c.lend.ensures.code, c.lend.ensures.after)).1 }
+    let said = same-fitting a.lent.now e (c.lend.ensures.code, c.lend.ensures.after) in
+    record { code = said.0; after = said.1 }
 
 pub returns-in-Refused : goal.returns-in-Refused
 unfolding reading_words
 returns-in-Refused c =
     let a = c.args in
     let e : reading_words a.reading ≡ refused (number_of c.in-Refused.why) = simp (sym c.words.ensures.answer ∙ ap words_outcome c.in-Refused.is) in
-    record { code = (refusing a.lent.now e c.number.ensures).0; after = (refusing a.lent.now e c.number.ensures).1 }
+    let said = refusing a.lent.now e c.number.ensures in
+    record { code = said.0; after = said.1 }

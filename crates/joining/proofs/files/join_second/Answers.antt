@@ -11,7 +11,9 @@ use Rattle.joining.proofs.FileLaws.{second-no-input, second-read}
 use Rattle.joining.proofs.files.join_second.Goals as goal
 
 pub returns-then-not-is_input : goal.returns-then-not-is_input
-returns-then-not-is_input c = record { answer = (second-no-input _ _ c.args.out.now (failed c.is_input.ensures c.if-not-is_input.true-raw) c.refusal_after.ensures).0; lent = (second-no-input _ _ c.args.out.now (failed c.is_input.ensures c.if-not-is_input.true-raw) c.refusal_after.ensures).1 }
+returns-then-not-is_input c =
+    let said = second-no-input _ _ c.args.out.now (failed c.is_input.ensures c.if-not-is_input.true-raw) c.refusal_after.ensures in
+    record { answer = said.0; lent = said.1 }
 
 pub returns : goal.returns
 returns c =
@@ -19,4 +21,5 @@ returns c =
     let is = passed c.is_input.ensures c.if-not-is_input.false-raw in
     let room : length bytes / word_bytes ≤ most_words = omega (arith, input-within bytes is) in
     let all = unpacked (replicate most_words 0) bytes room c.unpack-count.ensures.answer c.unpack-count.ensures.lent in
-    record { answer = (second-read _ bytes c.args.out.now is all _ _ (c.join_words.ensures.answer, c.join_words.ensures.lent)).0; lent = (second-read _ bytes c.args.out.now is all _ _ (c.join_words.ensures.answer, c.join_words.ensures.lent)).1 }
+    let said = second-read _ bytes c.args.out.now is all _ _ (c.join_words.ensures.answer, c.join_words.ensures.lent) in
+    record { answer = said.0; lent = said.1 }

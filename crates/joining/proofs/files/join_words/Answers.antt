@@ -14,12 +14,11 @@ slice_bounds-lend-end c =
 
 pub returns-in-Length : goal.returns-in-Length
 returns-in-Length c =
-    record {
-      answer = (made_bytes _ _ (replicate most_words 0) refl c.join.ensures.answer (ap written_outcome c.in-Length.is) c.join.ensures.lent
-          c.args.out.now _ _ (c.lend.ensures.answer, c.lend.ensures.lent)).0;
-      lent = (made_bytes _ _ (replicate most_words 0) refl c.join.ensures.answer (ap written_outcome c.in-Length.is) c.join.ensures.lent
-          c.args.out.now _ _ (c.lend.ensures.answer, c.lend.ensures.lent)).1;
-    }
+    let said = made_bytes _ _ (replicate most_words 0) refl c.join.ensures.answer (ap written_outcome c.in-Length.is) c.join.ensures.lent
+      c.args.out.now _ _ (c.lend.ensures.answer, c.lend.ensures.lent) in
+    record { answer = said.0; lent = said.1 }
 
 pub returns-in-Refused : goal.returns-in-Refused
-returns-in-Refused c = record { answer = (none_made _ _ (replicate most_words 0) refl c.join.ensures.answer c.args.out.now (ap written_outcome c.in-Refused.is)).0; lent = (none_made _ _ (replicate most_words 0) refl c.join.ensures.answer c.args.out.now (ap written_outcome c.in-Refused.is)).1 }
+returns-in-Refused c =
+    let said = none_made _ _ (replicate most_words 0) refl c.join.ensures.answer c.args.out.now (ap written_outcome c.in-Refused.is) in
+    record { answer = said.0; lent = said.1 }

@@ -3,7 +3,11 @@ use Rattle.joining.proofs.FileLaws.{bytes-short, bytes-written}
 use Rattle.joining.proofs.files.lend.Goals as goal
 
 pub returns-then-out-words : goal.returns-then-out-words
-returns-then-out-words c = record { answer = (bytes-short _ _ c.if-out-words.true).0; lent = (bytes-short _ _ c.if-out-words.true).1 }
+returns-then-out-words c =
+    let said = bytes-short _ _ c.if-out-words.true in
+    record { answer = said.0; lent = said.1 }
 
 pub returns : goal.returns
-returns c = record { answer = (bytes-written _ c.args.out.now c.if-out-words.false c.pack.ensures.answer c.pack.ensures.lent).0; lent = (bytes-written _ c.args.out.now c.if-out-words.false c.pack.ensures.answer c.pack.ensures.lent).1 }
+returns c =
+    let said = bytes-written _ c.args.out.now c.if-out-words.false c.pack.ensures.answer c.pack.ensures.lent in
+    record { answer = said.0; lent = said.1 }

@@ -3,24 +3,21 @@ use Rattle.joining.proofs.WriteLaws.{write-over, write-short, write-whole}
 use Rattle.joining.proofs.writing.write.Goals as goal
 
 pub returns-then-samples : goal.returns-then-samples
-returns-then-samples c = record { answer = (write-over _ _ _ _ _ c.if-samples.true).0; lent = (write-over _ _ _ _ _ c.if-samples.true).1 }
+returns-then-samples c =
+    let said = write-over _ _ _ _ _ c.if-samples.true in
+    record { answer = said.0; lent = said.1 }
 
 pub returns-then-out-size : goal.returns-then-out-size
-returns-then-out-size c = record { answer = (write-short _ _ _ _ _ c.if-samples.false c.requires.0.some c.requires.1.some c.if-out-size.true).0; lent = (write-short _ _ _ _ _ c.if-samples.false c.requires.0.some c.requires.1.some c.if-out-size.true).1 }
+returns-then-out-size c =
+    let said = write-short _ _ _ _ _ c.if-samples.false c.requires.0.some c.requires.1.some c.if-out-size.true in
+    record { answer = said.0; lent = said.1 }
 
 pub returns : goal.returns
 returns c =
-    record {
-      answer = (write-whole _ _ _ _ c.args.out.now c.if-samples.false c.requires.0.some c.requires.1.some c.if-out-size.false _ _ _ _ _
-          c.place.ensures.lent
-          c.place-2.ensures.lent
-          c.place-3.ensures.lent
-          c.place-4.ensures.lent
-          c.place-5.ensures.lent).0;
-      lent = (write-whole _ _ _ _ c.args.out.now c.if-samples.false c.requires.0.some c.requires.1.some c.if-out-size.false _ _ _ _ _
-          c.place.ensures.lent
-          c.place-2.ensures.lent
-          c.place-3.ensures.lent
-          c.place-4.ensures.lent
-          c.place-5.ensures.lent).1;
-    }
+    let said = write-whole _ _ _ _ c.args.out.now c.if-samples.false c.requires.0.some c.requires.1.some c.if-out-size.false _ _ _ _ _
+      c.place.ensures.lent
+      c.place-2.ensures.lent
+      c.place-3.ensures.lent
+      c.place-4.ensures.lent
+      c.place-5.ensures.lent in
+    record { answer = said.0; lent = said.1 }

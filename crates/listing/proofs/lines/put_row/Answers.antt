@@ -21,4 +21,6 @@ pub shape_of-text : goal.shape_of-text
 shape_of-text c = c.loop-i.invariant.1.long
 
 pub returns : goal.returns
-returns c = record { value = (left-none (rw (row_ends c.args.words.now c.args.from c.requires.row_words_in_bounds c.loop-i.i (search rules)) at c.loop-i.invariant.1)).0; text_after = (left-none (rw (row_ends c.args.words.now c.args.from c.requires.row_words_in_bounds c.loop-i.i (search rules)) at c.loop-i.invariant.1)).1 }
+returns c =
+    let said = left-none (rw (row_ends c.args.words.now c.args.from c.requires.row_words_in_bounds c.loop-i.i (search rules)) at c.loop-i.invariant.1) in
+    record { value = said.0; text_after = said.1 }
