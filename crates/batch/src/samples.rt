@@ -34,8 +34,8 @@ fn make_all(
     signals: &[u32],
     buffer: &mut [u32],
 ) -> Written
-    requires elements_len { (length elements.now ≡ length signals.now) × (length buffer.old ≡ most_answer) }
-    requires in_bounds { (1 ≤ length words.now) × (get_or words.now 0 0 ≡ count) × (count ≤ most_samples) × (get_or buffer.old 0 0 ≡ count) }
+    requires columns { (length elements.now ≡ length signals.now) × (length buffer.old ≡ most_answer) }
+    requires counted { (1 ≤ length words.now) × (get_or words.now 0 0 ≡ count) × (count ≤ most_samples) × (get_or buffer.old 0 0 ≡ count) }
     ensures { MadeSaid result (samples_answer elements.now signals.now words.now) buffer.new }
 {
     let mut at: usize = 1;

@@ -14,8 +14,8 @@ use refusal::Written;
 
 // The text of a batch lent as bytes.
 pub fn put_text(text: &mut [u8], bytes: &[u8]) -> usize
-    requires most_text_in_bounds { most_text ≤ length text.old }
-    requires bytes_len_bound { length bytes.now ≤ most_bytes }
+    requires room { most_text ≤ length text.old }
+    requires few_bytes { length bytes.now ≤ most_bytes }
     ensures value { result ≡ length (text_of (batch_answer (words_of bytes.now))) }
     ensures text_after { text.new ≡ lent_after (given (text_of (batch_answer (words_of bytes.now)))) text.old }
 {
@@ -38,7 +38,7 @@ fn put_judged(text: &mut [u8], words: &[u32]) -> usize
 
 // The text of an answer that was written to the start of a slice.
 fn put_answer(text: &mut [u8], answer: &[u32], written: Written) -> usize
-    requires most_text_in_bounds { most_text ≤ length text.old }
+    requires room { most_text ≤ length text.old }
     requires answered { Answered written answer.now }
     ensures value { result ≡ length (text_of (answer_in written answer.now)) }
     ensures text_after { text.new ≡ lent_after (given (text_of (answer_in written answer.now))) text.old }

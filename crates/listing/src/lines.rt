@@ -18,8 +18,8 @@ const LAST: usize = ROW_FIELDS - 1;
 
 // The text of a batch's answer, which stands at the start of `words`: the count on the first line, then a row a line.
 pub fn put_listing(text: &mut [u8], words: &[u32]) -> usize
-    requires words_in_bounds { 1 + row_words * get_or words.now 0 0 ≤ length words.now }
-    requires words_in_bounds_2 { length (listing_text words.now) ≤ length text.old }
+    requires rows_there { 1 + row_words * get_or words.now 0 0 ≤ length words.now }
+    requires room { length (listing_text words.now) ≤ length text.old }
     ensures value { result ≡ length (listing_text words.now) }
     ensures text_after { text.new ≡ lent_after (given (listing_text words.now)) text.old }
 {
@@ -47,8 +47,8 @@ pub fn put_refusal(text: &mut [u8], why: Refusal) -> usize
 
 // The row that begins at a word.
 fn put_row(text: &mut [u8], at: usize, words: &[u32], from: usize) -> usize
-    requires row_words_in_bounds { from + row_words ≤ length words.now }
-    requires from_in_bounds { at + length (row_line (row_at words.now from)) ≤ length text.old }
+    requires row_there { from + row_words ≤ length words.now }
+    requires room { at + length (row_line (row_at words.now from)) ≤ length text.old }
     ensures value { result ≡ at + length (row_line (row_at words.now from)) }
     ensures text_after { text.new ≡ placed text.old at (row_line (row_at words.now from)) }
 {
@@ -63,7 +63,7 @@ fn put_row(text: &mut [u8], at: usize, words: &[u32], from: usize) -> usize
 
 // A field of the row that begins at a word: the whole number, or a word after its own.
 fn field(words: &[u32], from: usize, i: usize) -> u64
-    requires row_words_in_bounds { from + row_words ≤ length words.now }
+    requires row_there { from + row_words ≤ length words.now }
     requires i_in_bounds { i < length row_widths }
     ensures { result ≡ get_or (row_fields (row_at words.now from)) i 0 }
 {

@@ -21,7 +21,7 @@ returns-then-not-is_input c =
 pub put_text-requires : goal.put_text-requires
 put_text-requires c =
     let bytes = c.args.bytes.now in
-    record { most_text_in_bounds = omega (arith, c.put_text-arg-1.given.0.1); bytes_len_bound = input-within bytes (passed c.is_input.ensures c.if-not-is_input.false-raw) }
+    record { room = omega (arith, c.put_text-arg-1.given.0.1); few_bytes = input-within bytes (passed c.is_input.ensures c.if-not-is_input.false-raw) }
 
 pub returns : goal.returns
 returns c =

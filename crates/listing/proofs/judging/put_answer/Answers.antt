@@ -7,10 +7,10 @@ use Rattle.listing.proofs.judging.put_answer.Goals as goal
 pub put_listing-requires : goal.put_listing-requires
 put_listing-requires c =
     let told = c.in-Length.is in
-    record { words_in_bounds = rows_inside c.args.answer.now told c.requires.answered; words_in_bounds_2 = le_trans (text-inside c.args.answer.now told c.requires.answered) c.requires.most_text_in_bounds }
+    record { rows_there = rows_inside c.args.answer.now told c.requires.answered; room = le_trans (text-inside c.args.answer.now told c.requires.answered) c.requires.room }
 
 pub put_refusal-requires : goal.put_refusal-requires
-put_refusal-requires c = le_trans (refused-fits _) c.requires.most_text_in_bounds
+put_refusal-requires c = le_trans (refused-fits _) c.requires.room
 
 pub returns-in-Length : goal.returns-in-Length
 returns-in-Length c = rw (text-listed c.args.answer.now c.in-Length.is c.requires.answered) c.put_listing.ensures

@@ -13,20 +13,20 @@ pub put_field-next-requires : goal.put_field-next-requires
 unfolding listing_text line
 put_field-next-requires c =
     let words = c.args.words.now in
-    omega (arith, c.requires.words_in_bounds_2, length-append (line (get_or words 0 0 ∷ [])) (row_lines (get_or words 0 0) (drop 1 words)))
+    omega (arith, c.requires.room, length-append (line (get_or words 0 0 ∷ [])) (row_lines (get_or words 0 0) (drop 1 words)))
 
 pub loop-left-init : goal.loop-left-init
 unfolding listing_text line
 loop-left-init c =
     let words = c.args.words.now in
-    let room = second-room c.args.text.now (line (get_or words 0 0 ∷ [])) (row_lines (get_or words 0 0) (drop 1 words)) c.requires.words_in_bounds_2
+    let room = second-room c.args.text.now (line (get_or words 0 0 ∷ [])) (row_lines (get_or words 0 0) (drop 1 words)) c.requires.room
     c.put_field-next.ensures.text_after c.put_field-next.ensures.value refl in
     (search rules, left-all _ _ _ room)
 
 pub put_row-next-requires : goal.put_row-next-requires
 put_row-next-requires c =
     let words = c.args.words.now in
-    record { row_words_in_bounds = search rules; from_in_bounds = left-room c.loop-left.invariant.1 (rows_next words c.loop-left.from c.loop-left.left (search rules)) }
+    record { row_there = search rules; room = left-room c.loop-left.invariant.1 (rows_next words c.loop-left.from c.loop-left.left (search rules)) }
 
 pub loop-left-preserved : goal.loop-left-preserved
 loop-left-preserved c =
@@ -40,6 +40,6 @@ returns c =
     let words = c.args.words.now in
     let none : c.loop-left.left ≡ 0 = search rules in
     let rows = left-none (rw (none, rows_none) at c.loop-left.invariant.1) in
-    let said = both-written c.args.text.now (line (get_or words 0 0 ∷ [])) (row_lines (get_or words 0 0) (drop 1 words)) c.requires.words_in_bounds_2
+    let said = both-written c.args.text.now (line (get_or words 0 0 ∷ [])) (row_lines (get_or words 0 0) (drop 1 words)) c.requires.room
       c.put_field-next.ensures.text_after c.put_field-next.ensures.value refl rows.1 rows.0 in
     record { value = said.0; text_after = said.1 }
