@@ -3,7 +3,7 @@
  * third, which closes the docket as confirmed; a fourth run is refused. At the end it prints the number of the bottle whose analysis
  * the docket holds. Build and run it at the repository's root:
  *
- *   rt staticlib analyser && cc -Iinclude examples/bottle.c target/staticlib/libanalyser.a -o target/bottle && target/bottle
+ *   scripts/build && cc -Iinclude examples/bottle.c target/staticlib/libanalyser.a -o target/bottle && target/bottle
  */
 #include <inttypes.h>
 #include <stdio.h>
