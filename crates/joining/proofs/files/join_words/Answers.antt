@@ -15,7 +15,7 @@ slice_bounds-lend-end c =
 pub returns-in-Length : goal.returns-in-Length
 returns-in-Length c =
     let said = made_bytes _ _ (replicate most_words 0) refl c.join.ensures.answer (ap written_outcome c.in-Length.is) c.join.ensures.lent
-      c.args.out.now _ _ (c.lend.ensures.answer, c.lend.ensures.lent) in
+    c.args.out.now _ _ (c.lend.ensures.answer, c.lend.ensures.lent) in
     record { answer = said.0; lent = said.1 }
 
 pub returns-in-Refused : goal.returns-in-Refused

@@ -15,9 +15,9 @@ returns-then-out-size c =
 pub returns : goal.returns
 returns c =
     let said = write-whole _ _ _ _ c.args.out.now c.if-samples.false c.requires.0.some c.requires.1.some c.if-out-size.false _ _ _ _ _
-      c.place.ensures.lent
-      c.place-2.ensures.lent
-      c.place-3.ensures.lent
-      c.place-4.ensures.lent
-      c.place-5.ensures.lent in
+    c.place.ensures.lent
+    c.place-2.ensures.lent
+    c.place-3.ensures.lent
+    c.place-4.ensures.lent
+    c.place-5.ensures.lent in
     record { answer = said.0; lent = said.1 }

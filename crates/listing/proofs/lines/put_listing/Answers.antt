@@ -41,5 +41,5 @@ returns c =
     let none : c.loop-left.left ≡ 0 = search rules in
     let rows = left-none (rw (none, rows_none) at c.loop-left.invariant.1) in
     let said = both-written c.args.text.now (line (get_or words 0 0 ∷ [])) (row_lines (get_or words 0 0) (drop 1 words)) c.requires.room
-      c.put_field-next.ensures.text_after c.put_field-next.ensures.value refl rows.1 rows.0 in
+    c.put_field-next.ensures.text_after c.put_field-next.ensures.value refl rows.1 rows.0 in
     record { value = said.0; text_after = said.1 }

@@ -22,6 +22,6 @@ pub returns : goal.returns
 unfolding refused_text line
 returns c =
     let said = both-written c.args.text.now refused_word _ c.requires c.copy-next.ensures.text_after c.copy-next.ensures.value
-      (ap (λ (n : ℕ). decimal n ++ (ending 0 ∷ [])) c.number.ensures)
-      c.put_field.ensures.text_after c.put_field.ensures.value in
+    (ap (λ (n : ℕ). decimal n ++ (ending 0 ∷ [])) c.number.ensures)
+    c.put_field.ensures.text_after c.put_field.ensures.value in
     record { value = said.0; text_after = said.1 }
