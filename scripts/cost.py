@@ -41,7 +41,7 @@ def check_seconds(crate):
     root.write_text(before + '// touched\n', encoding='utf-8')
     try:
         start = time.monotonic()
-        subprocess.run(['rt', 'check', crate], cwd=ROOT, capture_output=True, check=True)
+        subprocess.run(['rt', 'check'], cwd=ROOT / 'crates' / crate, capture_output=True, check=True)
         return f'{time.monotonic() - start:.0f}'
     finally:
         root.write_text(before, encoding='utf-8')

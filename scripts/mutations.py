@@ -94,7 +94,7 @@ def stored_cases_hold(copy):
 
 def refused_by(copy, crate):
     """What refuses the crate as it stands in the copy: the front end, the prover, a stored case, or nothing."""
-    said = run(copy, 'check', crate)
+    said = run(copy / 'crates' / crate, 'check')
     if said.returncode == 0:
         return None if run(copy, 'all', 'check').returncode == 0 and stored_cases_hold(copy) else 'a crate above it, or a stored case'
     return 'the prover' if 'logic=not-proved' in said.stdout + said.stderr else 'the front end'
