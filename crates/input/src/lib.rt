@@ -1,4 +1,4 @@
-// Words from standard input: four bytes each, least byte first.
+// Words from a reader, standard input or another: four bytes each, least byte first. And bytes as they come.
 #![tactic(auto)]
 
 ghost use Rattle.std.specs.Prelude.{◌≤◌, length};
