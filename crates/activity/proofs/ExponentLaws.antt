@@ -2,9 +2,11 @@
 use mathlib.Core.Path.{◌≡◌}
 use mathlib.Core.Bool.{Bool}
 use Prim.Native.Nat.{ℕ, ◌+◌, ◌-◌, ◌*◌, ◌/◌, ◌≤◌, ◌<◌}
-use native.Mathlib.Nat.{le_trans, lt_of_le_of_lt, mul-le-mul_left, mul-le-mul_right, le_of_mul-le-mul_right, div-mul-le_self, lt-div-mul-add, le-div_iff_mul-le, div-lt_iff_lt-mul}
+use native.Mathlib.Nat.{le_trans, lt_of_le_of_lt, mul-le-mul_left, mul-le-mul_right, le_of_mul-le-mul_right, div-mul-le_self, le-div_iff_mul-le, lt_of_mul-lt-mul_right}
 use native.Mathlib.Omega.{arith}
 use lib.Dec.{leb}
+use Rattle.std.specs.Int.{div_ceil}
+use Rattle.std.proofs.lemmas.Grind.{div_ceil_times}
 use borrow.Author.Tests.{le-leb, leb-true}
 use Rattle.activity.specs.Search.{IsGreatest, IsLeast}
 use Rattle.activity.specs.Exponent.{bottom, top, million, thousand, NotAbove, NotBelow, lower_exponent, upper_exponent}
@@ -68,18 +70,17 @@ module _ (k : ℕ) where
           let m : lower_exponent k ≤ top k million / b = (le-div_iff_mul-le {k = b} {x = lower_exponent k} {y = top k million} z).1 h in
           omega arith
 
-  pub upper-exponent-is : (t : ℕ) → t ≡ top k million → (t + (thousandth_of k - 1)) / thousandth_of k ≡ upper_exponent k
+  pub upper-exponent-is : (t : ℕ) → t ≡ top k million → div_ceil t (thousandth_of k) ≡ upper_exponent k
   upper-exponent-is t e = rw e (divided (thousandth_of k) (omega arith) bottom-is)
     where
-      divided : (b : ℕ) → 0 < b → bottom k million ≡ thousand * b → (top k million + (b - 1)) / b ≡ upper_exponent k
+      divided : (b : ℕ) → 0 < b → bottom k million ≡ thousand * b → div_ceil (top k million) b ≡ upper_exponent k
       divided b z d =
-          let over : top k million + (b - 1) < (top k million + (b - 1)) / b * b + b = lt-div-mul-add z in
-          let l : upper_exponent k ≤ (top k million + (b - 1)) / b =
-          upper-exponent.least ((top k million + (b - 1)) / b) (rw d (omega (arith, over))) in
+          let bounds = div_ceil_times (top k million) b z in
+          let l : upper_exponent k ≤ div_ceil (top k million) b =
+          upper-exponent.least (div_ceil (top k million) b) (rw d (omega (arith, bounds.0))) in
           let h : top k million ≤ upper_exponent k * b = omega (arith, rw d at upper-exponent.one) in
-          let m : (top k million + (b - 1)) / b < upper_exponent k + 1 =
-          (div-lt_iff_lt-mul {k = b} {x = top k million + (b - 1)} {y = upper_exponent k + 1} z).1 (omega arith) in
-          omega arith
+          let m : div_ceil (top k million) b < upper_exponent k + 1 = lt_of_mul-lt-mul_right b (omega (arith, h, bounds.1)) in
+          omega (arith, l, m)
 
 module _ (k m : ℕ) (le : k ≤ m) (small : m ≤ greatest_root) where
   more : top k million * bottom m million ≤ top m million * bottom k million

@@ -7,11 +7,11 @@ use native.Mathlib.Nat.{le_trans}
 use native.Mathlib.Omega.{arith}
 use lib.Dec.{ltb}
 use borrow.Author.Tests.{lt-ltb, le-ltb}
-use Rattle.activity.specs.declared.Correction.TheVariants.{Between, TooStrong}
+use Rattle.std.specs.Prelude.{None}
 use Rattle.activity.specs.Strength.{strongest, lower_root, upper_root}
 use Rattle.activity.specs.Exponent.{lower_exponent, upper_exponent}
 use Rattle.activity.specs.Floors.{floor_at}
-use Rattle.activity.specs.Brackets.{unit, lower_end, upper_end, correction_of}
+use Rattle.activity.specs.Brackets.{between, unit, lower_end, upper_end, correction_of}
 use Rattle.activity.specs.Truth.{Holds, Bracketed}
 use Rattle.activity.specs.Steps.{table_length}
 use Rattle.activity.proofs.RootLaws.{lower-root, upper-root, roots-ordered, lower-root-grows, upper-root-grows, lower-root-small, upper-root-small}
@@ -21,11 +21,11 @@ use Rattle.activity.proofs.FloorLaws.{floor-of-power, floor-falls, floor-most, f
 use Rattle.activity.proofs.Sound as sound
 
 pub bracket-given : (least greatest : ℕ) → least ≤ strongest → greatest ≤ strongest
-    → correction_of least greatest ≡ Between (lower_end greatest) (upper_end least)
+    → correction_of least greatest ≡ between (lower_end greatest) (upper_end least)
 unfolding correction_of
 bracket-given least greatest l g = rw (le-ltb strongest least l, le-ltb strongest greatest g)
 
-pub bracket-none : (least greatest : ℕ) → (strongest < least) ⊎ (strongest < greatest) → correction_of least greatest ≡ TooStrong
+pub bracket-none : (least greatest : ℕ) → (strongest < least) ⊎ (strongest < greatest) → correction_of least greatest ≡ None
 unfolding correction_of
 bracket-none least greatest =
     ⊎_elim (λ l. rw (lt-ltb strongest least l)) (λ g. rw (lt-ltb strongest greatest g, or-true (ltb strongest least)))

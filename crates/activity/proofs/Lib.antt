@@ -7,7 +7,6 @@ mod Grows
 mod ExponentLaws
 mod FloorLaws
 mod FloorTable
-mod RowLaws
 mod Ends
 mod Sound
 pub mod Laws

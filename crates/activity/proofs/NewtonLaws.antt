@@ -1,10 +1,9 @@
 -- Newton's step towards the root of a number, from a guess r: it is not below the root, and it is below a guess that is above the root.
 use mathlib.Core.Path.{◌≡◌}
-use Prim.Native.Nat.{ℕ, zero, suc, ◌+◌, ◌-◌, ◌*◌, ◌/◌, ◌%◌, ◌^◌, ◌≤◌, ◌<◌}
-use native.Mathlib.Nat.{le_trans, le_of_eq, add-le-add, one-mul, mul-le-mul_right, mod-le, div-le_self, lt-div-mul-add, div-lt_iff_lt-mul}
+use Prim.Native.Nat.{ℕ, zero, suc, min, ◌+◌, ◌-◌, ◌*◌, ◌/◌, ◌≤◌, ◌<◌}
+use native.Mathlib.Nat.{mul-le-mul_right, min-eq_left, min-eq_right, lt-div-mul-add, div-lt_iff_lt-mul}
 use native.Mathlib.Decide.{dec_le}
 use native.Mathlib.Omega.{arith}
-use lib.Pow.{pow_mono}
 
 -- twice a product is at most the two squares
 twice-product : (a b : ℕ) → 2 * (a * b) ≤ a * a + b * b
@@ -22,6 +21,14 @@ above x r q m next twice = omega (arith, next, mul-le-mul_right r twice, twice-p
 pub step-above : (x r : ℕ) → 0 < r → x < ((r + x / r) / 2 + 1) * ((r + x / r) / 2 + 1)
 step-above x r some = above x r (x / r) ((r + x / r) / 2 + 1) (lt-div-mul-add some) (omega arith)
 
+-- so the guess is not below the root where it is no more than a number whose square is not below x
+pub capped : (x r most : ℕ) → x ≤ most * most → x < (r + 1) * (r + 1) → x < (min r most + 1) * (min r most + 1)
+capped x r most h above = go (dec_le r most)
+  where
+    go : Dec (r ≤ most) → x < (min r most + 1) * (min r most + 1)
+    go (yes l) = rw (min-eq_left l) above
+    go (no f) = let l : most ≤ r = omega (arith, f) in rw (min-eq_right l) (omega (arith, h))
+
 -- a number whose square is above another is not 0
 pub some-above : (x r : ℕ) → x < r * r → 0 < r
 some-above x zero h = absurd (omega arith)
@@ -30,9 +37,3 @@ some-above x (suc r) h = omega arith
 -- the step from a guess above the root is below it
 pub step-below : (x r : ℕ) → x < r * r → (r + x / r) / 2 < r
 step-below x r h = let less : x / r < r = (div-lt_iff_lt-mul (some-above x r h)).1 h in omega (arith, less)
-
--- what the code starts from, with `half` for about half of the bits of x, has room; `1 << half` is taken modulo 2^64
-pub start_small : (x half : ℕ) → half ≤ 32 → (1 * 2 ^ half) % 2 ^ 64 + x / 2 ^ half ≤ 2 ^ 32 + x
-start_small x half h =
-    let shifted : 1 * 2 ^ half ≤ 2 ^ 32 = le_trans (le_of_eq (one-mul (2 ^ half))) (pow_mono h) in
-    add-le-add (le_trans (mod-le (1 * 2 ^ half) (2 ^ 64)) shifted) (div-le_self x (2 ^ half))

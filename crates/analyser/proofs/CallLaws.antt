@@ -1,34 +1,40 @@
--- What a call returns and leaves in the lent slice, by what was to be answered.
+-- What a call answers, returns and leaves in the lent slice, by what was to be answered.
 use mathlib.Core.Path.{◌≡◌, refl, sym, ap, ◌∙◌, subst}
-use mathlib.Core.List.{List, ◌++◌}
-use Prim.Native.Nat.{ℕ, ◌≤◌, ◌<◌}
-use lib.ListN.{length, drop}
+use mathlib.Core.List.{List}
+use Prim.Native.Nat.{ℕ, ◌≤◌}
+use Rattle.std.specs.Prelude.{Result, IsErrAnd}
+use lib.ListN.{length}
 use borrow.Author.Tests.{le-leb}
-use Rattle.refusal.specs.declared.Refusal.TheVariants as refusal
+use Rattle.refusal.specs.declared.Refusal.{Refusal}
 use Rattle.refusal.specs.Numbers.{number_of}
-use Rattle.refusal.specs.Outcome.{Outcome}
+use Rattle.refusal.specs.Outcome.{Outcome, outcome_of}
 use Rattle.refusal.specs.Outcome.Outcome.{given, refused}
 use Rattle.refusal.specs.Lent.{fitting, lent_after, length_of}
-use Rattle.refusal.proofs.LentLaws.{too_short, written}
+use Rattle.refusal.proofs.Outcomes.{handed-on}
 use Rattle.analyser.specs.Codes.{code_of, size_after, told_size}
 
--- the returned code, and the slice after the call, which held old before
-abbrev pub Called : Outcome (List ℕ) → List ℕ → ℕ → List ℕ → Type 0
-Called o old code after = (code ≡ code_of o) × (after ≡ lent_after o old)
+-- the answer, and the slice after the call, which held old before
+abbrev pub Answered : Outcome (List ℕ) → List ℕ → Outcome ℕ → List ℕ → Type 0
+Answered o old w after = (w ≡ length_of o) × (after ≡ lent_after o old)
 
-module _ (old : List ℕ) {o : Outcome (List ℕ)} {code : ℕ} where
-  pub same_answer : {o' : Outcome (List ℕ)} {after : List ℕ} → o ≡ o' → Called o' old code after → Called o old code after
-  same_answer {after = after} e called = subst (λ (x : Outcome (List ℕ)). Called x old code after) (sym e) called
+module _ (old : List ℕ) {o : Outcome (List ℕ)} where
+  pub same_answer : {o' : Outcome (List ℕ)} {w : Outcome ℕ} {after : List ℕ} → o ≡ o' → Answered o' old w after → Answered o old w after
+  same_answer {w = w} {after = after} e said = subst (λ (x : Outcome (List ℕ)). Answered x old w after) (sym e) said
 
   -- with the test for room, which is the last
-  pub same-fitting : {o' : Outcome (List ℕ)} {after : List ℕ} → o ≡ o'
-      → Called (fitting (length old) o') old code after → Called (fitting (length old) o) old code after
-  same-fitting {after = after} e called = subst (λ (x : Outcome (List ℕ)). Called (fitting (length old) x) old code after) (sym e) called
+  pub same-fitting : {o' : Outcome (List ℕ)} {w : Outcome ℕ} {after : List ℕ} → o ≡ o'
+      → Answered (fitting (length old) o') old w after → Answered (fitting (length old) o) old w after
+  same-fitting {w = w} {after = after} e said = subst (λ (x : Outcome (List ℕ)). Answered (fitting (length old) x) old w after) (sym e) said
 
-  pub refusing : {n : ℕ} → o ≡ refused n → code ≡ n → Called (fitting (length old) o) old code old
-  refusing e h = same-fitting e (h, refl)
+  -- a refusal that is handed on, without that test and with it
+  module _ (r : Result ℕ Refusal) (why : Refusal) (h : IsErrAnd r (λ w. w ≡ why)) (e : o ≡ refused (number_of why)) where
+    pub refusing : Answered o old (outcome_of r) old
+    refusing = same_answer e (handed-on r why h, refl)
 
--- a call below wrote the answer and returned its length; the code is that of what it returned
+    pub refusing-fitting : Answered (fitting (length old) o) old (outcome_of r) old
+    refusing-fitting = same-fitting e (handed-on r why h, refl)
+
+-- the code is that of what a call below answered
 pub written-code : (o : Outcome (List ℕ)) {w : Outcome ℕ} {code : ℕ} → code ≡ code_of w → w ≡ length_of o → code ≡ code_of o
 written-code (given answer) e f = e ∙ ap code_of f
 written-code (refused n) e f = e ∙ ap code_of f
@@ -38,16 +44,6 @@ pub written-size : (o : Outcome (List ℕ)) {w : Outcome ℕ} {size : ℕ} (old 
 written-size (given answer) old e f = e ∙ ap (λ (x : Outcome ℕ). told_size x old) f
 written-size (refused n) old e f = e ∙ ap (λ (x : Outcome ℕ). told_size x old) f
 
--- an answer is lent where it fits
-module _ (answer old : List ℕ) where
-  abbrev lent : Outcome (List ℕ)
-  lent = fitting (length old) (given answer)
-
-  pub lent-short : length old < length answer → {code : ℕ} → code ≡ number_of refusal.OutputLength → Called lent old code old
-  lent-short h e = let short = too_short (given answer) old answer refl h in (written-code lent e short.0, short.1)
-
-  pub lent-whole : length answer ≤ length old → {after : List ℕ} → after ≡ answer ++ drop (length answer) old → Called lent old 0 after
-  lent-whole h e = let whole = written (given answer) old answer refl h refl e in (written-code lent refl whole.0, whole.1)
-
-  pub fits_whole : length answer ≤ length old → lent ≡ given answer
-  fits_whole h = simp (le-leb (length answer) (length old) h)
+-- an answer that fits
+pub fits_whole : (answer old : List ℕ) → length answer ≤ length old → fitting (length old) (given answer) ≡ given answer
+fits_whole answer old h = simp (le-leb (length answer) (length old) h)

@@ -2,4 +2,3 @@
 mod CallLaws
 mod WordLaws
 mod OfferLaws
-mod ReadLaws

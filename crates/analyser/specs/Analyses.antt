@@ -5,12 +5,8 @@ use Rattle.refusal.specs.Outcome.Outcome.{given}
 use Rattle.reading.specs.declared.Reading.{Reading}
 use Rattle.reading.specs.declared.Words.{Words}
 use Rattle.reading.specs.Readings.{analysed_of, words_of}
-use Rattle.judge.specs.Judgements.{Four, judgement_of}
+use Rattle.judge.specs.Judgements.{Four, four_words, judgement_of}
 use Rattle.analyser.specs.Codes.{and_then}
-
--- the numbers of the four verdicts, in document 01's order
-abbrev pub four_words : Four → List ℕ
-four_words v = v.balance ∷ v.conductivity ∷ v.ratio ∷ v.nitrogen ∷ []
 
 -- a record: 'its verdicts', or the number of the first of its own tests, 1 to 7, that refuses it
 unfoldable pub judged_words : List ℕ → Outcome (List ℕ)

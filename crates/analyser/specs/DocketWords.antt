@@ -1,21 +1,14 @@
 -- A docket lent as words by a program in C: where it stands, its count, and the words of its last record. Document 01 does not
 -- define these words; the numbers of the four states are in the order in which it names them.
-use Rattle.std.specs.Prelude.{cond, List, ◌∷◌, ℕ, ◌+◌, leb, eqb, length, get_or, take, drop}
+use Rattle.std.specs.Prelude.{List, ◌∷◌, ℕ, ◌+◌, leb, length, get_or, take, drop}
 use Rattle.refusal.specs.Outcome.{Outcome, demand}
-use Rattle.refusal.specs.Outcome.Outcome.{given, refused}
+use Rattle.refusal.specs.Outcome.Outcome.{given}
 use Rattle.refusal.specs.Numbers.{number_of}
 use Rattle.refusal.specs.declared.Refusal.TheVariants as refusal
 use Rattle.record.specs.Record.{record_words}
 use Rattle.docket.specs.Terms.{Standing, DocketTerms}
-use Rattle.docket.specs.Terms.Standing.{«open», consistent, confirmed, unsettled}
+use Rattle.docket.specs.Numbers.{standing_number, standing_from}
 use Rattle.analyser.specs.Codes.{and_then}
-
--- 'open, consistent, confirmed or unsettled'
-abbrev pub standing_number : Standing → ℕ
-standing_number «open» = 0
-standing_number consistent = 1
-standing_number confirmed = 2
-standing_number unsettled = 3
 
 abbrev pub docket_words : DocketTerms → List ℕ
 docket_words d = standing_number d.state ∷ d.count ∷ d.held
@@ -23,15 +16,6 @@ docket_words d = standing_number d.state ∷ d.count ∷ d.held
 -- as many as that
 abbrev pub docket_length : ℕ
 docket_length = 2 + record_words
-
--- the way back: no offers produce a state of another number, so it is refused 11
-unfoldable pub standing_from : ℕ → Outcome Standing
-standing_from n =
-    cond (eqb n 0) (given «open»)
-    (cond (eqb n 1) (given consistent)
-    (cond (eqb n 2) (given confirmed)
-    (cond (eqb n 3) (given unsettled)
-    (refused (number_of refusal.DocketClosed)))))
 
 -- where the docket of a lent slice stands; a slice that is too short for a docket is refused 13
 unfoldable pub standing_in : List ℕ → Outcome Standing

@@ -5,7 +5,6 @@
 
 mod codes;
 mod docket_words;
-mod lending;
 mod offering;
 mod reading_words;
 mod verdict_words;
@@ -21,9 +20,8 @@ ghost use Rattle.analyser.specs.Codes.{code_of, size_after};
 ghost use Rattle.analyser.specs.Analyses.{judged_words, analysed_words};
 ghost use Rattle.analyser.specs.LentDockets.{FreshLent, offered_words, LentLaws};
 
-use docket::Answer;
-use judge::Judgement;
-use reading::{Analysed, ReadingResult};
+use reading::Analysed;
+use refusal::lent::lend;
 
 // Judges a record: the numbers of its four verdicts.
 #[unsafe(no_mangle)]
@@ -31,13 +29,7 @@ pub extern "C" fn peltquarry_judge(words: &[u32], verdicts: &mut [u32]) -> u32
     ensures code { result ≡ code_of (fitting (length verdicts.old) (judged_words words.now)) }
     ensures lent { verdicts.new ≡ lent_after (fitting (length verdicts.old) (judged_words words.now)) verdicts.old }
 {
-    match judge::judge(words) {
-        Judgement::Judged(four) => {
-            let answer = verdict_words::numbers(four);
-            lending::lend(&answer, verdicts)
-        }
-        Judgement::Refused(why) => why.number(),
-    }
+    codes::of_written(verdict_words::lend_verdicts(words, verdicts))
 }
 
 // The two words of a reading in a record, from the analyser's value and quantification limit.
@@ -46,14 +38,8 @@ pub extern "C" fn peltquarry_reading(value: f32, limit: f32, words: &mut [u32]) 
     ensures code { result ≡ code_of (fitting (length words.old) (analysed_words value limit)) }
     ensures lent { words.new ≡ lent_after (fitting (length words.old) (analysed_words value limit)) words.old }
 {
-    let analysed = Analysed {
-        value: value,
-        limit: limit,
-    };
-    match analysed.to_reading() {
-        ReadingResult::Given(reading) => reading_words::lend_reading(reading, words),
-        ReadingResult::Refused(why) => why.number(),
-    }
+    let analysed = Analysed { value, limit };
+    codes::of_written(reading_words::lend_reading(analysed, words))
 }
 
 // A fresh docket, as words. Its record is left open.
@@ -62,7 +48,8 @@ pub extern "C" fn peltquarry_fresh(docket: &mut [u32]) -> u32
     ensures fresh { FreshLent result docket.old docket.new }
     ensures laws { LentLaws }
 {
-    docket_words::lend(docket::fresh(), docket)
+    let answer = docket_words::words_of(docket::fresh());
+    codes::of_written(lend(&answer, docket))
 }
 
 // Offers a record to a docket lent as words. Where it is taken, they become those of the docket after it.
@@ -72,16 +59,7 @@ pub extern "C" fn peltquarry_offer(docket: &mut [u32], words: &[u32]) -> u32
     ensures lent { docket.new ≡ lent_after (offered_words docket.old words.now) docket.old }
     ensures laws { LentLaws }
 {
-    if docket.len() < docket_words::LENGTH {
-        return offering::to_none(words);
-    }
-    let before = docket_words::docket_at(docket);
-    let offered = docket::offer(before, words);
-    let answer = offered.answer;
-    match answer {
-        Answer::Taken => docket_words::lend(offered.docket, docket),
-        Answer::Refused(why) => why.number(),
-    }
+    codes::of_written(offering::offer(docket, words))
 }
 
 // Reads a control chart: a signal word for each later value.

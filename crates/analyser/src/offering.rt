@@ -1,17 +1,27 @@
-// An offer to words that are too few for a docket.
+// An offer to a docket lent as words.
 ghost use Rattle.std.specs.Prelude.{◌≡◌};
-ghost use Rattle.analyser.specs.Codes.{code_of};
-ghost use Rattle.analyser.specs.Steps.{offered_to_none};
+ghost use Rattle.refusal.specs.Outcome.{outcome_of};
+ghost use Rattle.refusal.specs.Lent.{length_of, lent_after};
+ghost use Rattle.analyser.specs.LentDockets.{offered_words};
 
-use judge::Acceptance;
+use crate::docket_words;
 use refusal::Refusal;
+use refusal::lent::lend;
 
-// The record's own refusal goes before theirs.
-pub fn to_none(words: &[u32]) -> u32
-    ensures { result ≡ code_of (offered_to_none words.now) }
+// Where it is taken, the words become those of the docket after it.
+pub fn offer(lent: &mut [u32], words: &[u32]) -> Result<usize, Refusal>
+    ensures answer { outcome_of result ≡ length_of (offered_words lent.old words.now) }
+    ensures after { lent.new ≡ lent_after (offered_words lent.old words.now) lent.old }
 {
-    match judge::test(words) {
-        Acceptance::Accepted => Refusal::OutputLength.number(),
-        Acceptance::Refused(own) => own.number(),
-    }
+    let before = match docket_words::docket_in(lent) {
+        Ok(before) => before,
+        Err(why) => {
+            // The record's own refusal goes before that of the lent words.
+            judge::test(words)?;
+            return Err(why);
+        }
+    };
+    let after = before.after(words)?;
+    let answer = docket_words::words_of(after);
+    lend(&answer, lent)
 }

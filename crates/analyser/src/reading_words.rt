@@ -1,22 +1,20 @@
 // The words of a reading.
 ghost use Rattle.std.specs.Prelude.{◌≡◌, length};
-ghost use Rattle.refusal.specs.Lent.{fitting, lent_after};
-ghost use Rattle.analyser.specs.Codes.{code_of};
-ghost use Rattle.analyser.specs.Analyses.{reading_words};
+ghost use Rattle.refusal.specs.Outcome.{outcome_of};
+ghost use Rattle.refusal.specs.Lent.{fitting, length_of, lent_after};
+ghost use Rattle.analyser.specs.Analyses.{analysed_words};
 
-use crate::lending;
-use reading::{Reading, WordsResult};
+use reading::Analysed;
+use refusal::Refusal;
+use refusal::lent::lend;
 
 // Its mark, and the bits of its float.
-pub fn lend_reading(reading: Reading, lent: &mut [u32]) -> u32
-    ensures code { result ≡ code_of (fitting (length lent.old) (reading_words reading)) }
-    ensures after { lent.new ≡ lent_after (fitting (length lent.old) (reading_words reading)) lent.old }
+pub fn lend_reading(analysed: Analysed, lent: &mut [u32]) -> Result<usize, Refusal>
+    ensures answer { outcome_of result ≡ length_of (fitting (length lent.old) (analysed_words analysed.value analysed.limit)) }
+    ensures after { lent.new ≡ lent_after (fitting (length lent.old) (analysed_words analysed.value analysed.limit)) lent.old }
 {
-    match reading.words() {
-        WordsResult::Given(words) => {
-            let answer = [words.mark, words.bits];
-            lending::lend(&answer, lent)
-        }
-        WordsResult::Refused(why) => why.number(),
-    }
+    let reading = analysed.to_reading()?;
+    let words = reading.words()?;
+    let answer = [words.mark, words.bits];
+    lend(&answer, lent)
 }

@@ -1,25 +1,18 @@
 // The words of the four verdicts.
-ghost use Rattle.std.specs.Prelude.{◌≡◌};
-ghost use Rattle.judge.specs.Judgements.{numbers_of};
-ghost use Rattle.analyser.specs.Analyses.{four_words};
+ghost use Rattle.std.specs.Prelude.{◌≡◌, length};
+ghost use Rattle.refusal.specs.Outcome.{outcome_of};
+ghost use Rattle.refusal.specs.Lent.{fitting, length_of, lent_after};
+ghost use Rattle.analyser.specs.Analyses.{judged_words};
 
-use judge::Verdicts;
+use refusal::Refusal;
+use refusal::lent::lend;
 
-// How many checks there are.
-const CHECKS: usize = 4;
-
-// Their numbers, in document 01's order.
-pub fn numbers(verdicts: Verdicts) -> [u32; CHECKS]
-    ensures { result ≡ four_words (numbers_of verdicts) }
+// Their numbers, in document 01's order, of a record.
+pub fn lend_verdicts(words: &[u32], lent: &mut [u32]) -> Result<usize, Refusal>
+    ensures answer { outcome_of result ≡ length_of (fitting (length lent.old) (judged_words words.now)) }
+    ensures after { lent.new ≡ lent_after (fitting (length lent.old) (judged_words words.now)) lent.old }
 {
-    let balance = verdicts.balance;
-    let conductivity = verdicts.conductivity;
-    let ratio = verdicts.ratio;
-    let nitrogen = verdicts.nitrogen;
-    [
-        balance.number(),
-        conductivity.number(),
-        ratio.number(),
-        nitrogen.number(),
-    ]
+    let four = judge::judge(words)?;
+    let answer = four.numbers();
+    lend(&answer, lent)
 }

@@ -1,26 +1,25 @@
--- The samples of a batch, read one after another: one sample at the front of the words; the section's count; and the loop over the
--- samples, a turn of it and each of its ends, whatever is told of the samples; and what is told of the batch.
-use mathlib.Core.Path.{◌≡◌, sym, ap, ◌∙◌}
+-- The samples of a batch, read one after another: one sample at the front of the words; and the walk over the samples, a turn of it
+-- and each of its ends, whatever is told of the samples; and what is told of the batch.
+use mathlib.Core.Path.{◌≡◌, refl, sym, ap, ◌∙◌}
 use mathlib.Core.Bool.{Bool, true, false}
 use mathlib.Core.List.{List, [], ◌∷◌, ◌++◌}
-use Prim.Native.Nat.{ℕ, ◌+◌, ◌-◌, ◌≤◌, ◌<◌}
+use Prim.Native.Nat.{ℕ, zero, suc, ◌≤◌, ◌<◌}
 use native.Mathlib.Omega.{arith}
 use lib.Dec.{eqb}
-use lib.ListN.{length, get_or, take, drop, length-drop}
-use lib.Seq.{drop-drop}
+use lib.ListN.{length, take, drop}
 use borrow.Author.Tests.{le-leb, lt-leb, eq-eqb, ne_eqb}
 use Rattle.refusal.specs.Outcome.{Outcome, demand}
 use Rattle.refusal.specs.Outcome.Outcome.{given, refused}
 use Rattle.refusal.specs.Numbers.{number_of}
+use Rattle.refusal.specs.declared.Refusal.{Refusal}
 use Rattle.refusal.specs.declared.Refusal.TheVariants as refusal
 use Rattle.record.specs.Record.{record_words}
 use Rattle.judge.specs.Judgements.{Four, judgement_of}
 use Rattle.words.specs.FromFront.{Read, taken, then, many}
-use Rattle.words.proofs.SliceLaws.{part_of}
-use Rattle.words.proofs.ManyLaws.{then-taken, then-refused, many-none, many-refused, many-next, section-short, section-over}
+use Rattle.words.proofs.ManyLaws.{then-taken, then-refused, section-begins}
 use Rattle.chart_section.specs.ChartSection.{Chart, charts_of}
 use Rattle.batch.specs.Batches.{Sample, Batch, most_samples, sample_of, samples_of, nothing_is_left, batch_of}
-use Rattle.batch.specs.Steps.{samples_then}
+use Rattle.batch.specs.Steps.{TakenFrom, NoneFrom, samples_then}
 
 -- ---- one sample
 
@@ -38,72 +37,69 @@ module _ (s : List ℕ) (h : record_words ≤ length s) where
   unfolding sample_of
   sample-taken v e = rw (le-leb record_words (length s) h, e)
 
--- ---- the section
+-- ---- the walk: those before have been read, n are to come, and this is what is left of the words
 
 abbrev pub sample_after : List Sample → List ℕ → Read Sample
 sample_after before = sample_of
 
-module _ {A : Type 0} (f : List Sample → A) (words : List ℕ) where
-  pub samples-short : length words < 1 → samples_then f words ≡ refused (number_of refusal.BatchLength)
-  unfolding samples_then
-  samples-short h = then-refused _ (section-short sample_after most_samples words h)
-
-  pub samples-over : 1 ≤ length words → most_samples < get_or words 0 0 → samples_then f words ≡ refused (number_of refusal.Count)
-  unfolding samples_then
-  samples-over h l = then-refused _ (section-over sample_after most_samples words h l)
-
--- ---- the loop: i of count samples have been read, those before, up to the index at
-
 -- what is left of the words decides the rest
-abbrev pub Left : List ℕ → ℕ → ℕ → ℕ → List Sample → Type 0
-Left words count at i before = samples_of words ≡ many sample_after (count - i) before (drop at words)
+abbrev pub Left : List ℕ → ℕ → List ℕ → List Sample → Type 0
+Left words n rest before = samples_of words ≡ many sample_after n before rest
 
-module _ (words : List ℕ) (count at i : ℕ) (before : List Sample) (inside : at ≤ length words) (left : Left words count at i before) where
-  -- the record as the code lends it
-  abbrev pub lent_record : List ℕ
-  lent_record = take (at + record_words - at) (drop at words)
+pub walk-begins : (words : List ℕ) (n : ℕ) (rest : List ℕ) → words ≡ n ∷ rest → n ≤ most_samples → Left words n rest []
+walk-begins words n rest e l =
+    rw e
+    (section-begins sample_after most_samples (n ∷ rest) n (omega arith) refl l ∙ ap (λ (k : ℕ). many sample_after k [] rest) (omega arith))
 
-  pub record-there : lent_record ≡ take record_words (drop at words)
-  record-there = part_of words at record_words
+pub section-refused : {A : Type 0} (f : List Sample → A) (words : List ℕ) {m : ℕ} → samples_of words ≡ refused m → samples_then f words ≡ refused m
+unfolding samples_then
+section-refused f words e = then-refused _ e
 
-  long : at + record_words ≤ length words → record_words ≤ length (drop at words)
-  long h = omega (arith, length-drop at words)
+module _ (words : List ℕ) (n : ℕ) (rest : List ℕ) (before : List Sample) (left : Left words n rest before) where
+  more : {k : ℕ} → n ≡ suc k → samples_of words ≡ many sample_after (suc k) before rest
+  more e = left ∙ ap (λ (m : ℕ). many sample_after m before rest) e
 
-  pub next-left : (v : Four) → i < count → at + record_words ≤ length words → judgement_of (take record_words (drop at words)) ≡ given v
-      → Left words count (at + record_words) (i + 1) (before ++ record { words = take record_words (drop at words); verdicts = v } ∷ [])
-  next-left v l h e =
-      left
-      ∙ many-next sample_after count i before (drop at words) l (sample-taken (drop at words) (long h) v e)
-      ∙ ap (many sample_after (count - (i + 1)) (before ++ _ ∷ [])) (drop-drop record_words at words)
+  none : n ≡ 0 → samples_of words ≡ taken before rest
+  unfolding many
+  none e = left ∙ ap (λ (m : ℕ). many sample_after m before rest) e
+
+  module _ {w rest' : List ℕ} (n' : ℕ) (t : TakenFrom n rest w n' rest') where
+    next : n ≡ suc n'
+    next = omega (arith, t.0)
+
+    pub next-left : (v : Four) → judgement_of w ≡ given v → Left words n' rest' (before ++ record { words = w; verdicts = v } ∷ [])
+    unfolding many
+    next-left v e =
+        let e' : judgement_of (take record_words rest) ≡ given v = rw t.2 at e in
+        rw (t.2, t.3) (more next ∙ rw (sample-taken rest t.1 v e'))
 
   module _ {A : Type 0} (f : List Sample → A) where
-    refused-there : (n : ℕ) → i < count → sample_of (drop at words) ≡ refused n → samples_then f words ≡ refused n
+    refused-there : {k m : ℕ} → n ≡ suc k → sample_of rest ≡ refused m → samples_then f words ≡ refused m
+    unfolding samples_then many
+    refused-there e r = then-refused _ (more e ∙ rw r)
+
+    pub record-refused : {w rest' : List ℕ} (n' : ℕ) {m : ℕ} → TakenFrom n rest w n' rest' → judgement_of w ≡ refused m → samples_then f words ≡ refused m
+    record-refused n' {m} t e =
+        let e' : judgement_of (take record_words rest) ≡ refused m = rw t.2 at e in
+        refused-there (next n' t) (sample-refused rest t.1 m e')
+
+    words-over : n ≡ 0 → 0 < length rest → samples_then f words ≡ refused (number_of refusal.BatchLength)
     unfolding samples_then
-    refused-there n l e = then-refused _ (left ∙ many-refused sample_after count i before (drop at words) l e)
+    words-over e h =
+        let some : length rest ≡ 0 → ⊥ = λ z. omega arith in
+        then-taken _ (none e) ∙ rw (ne_eqb (length rest) 0 some)
 
-    pub record-short : i < count → length words < at + record_words → samples_then f words ≡ refused (number_of refusal.BatchLength)
-    record-short l h =
-        let short : length (drop at words) < record_words = omega (arith, length-drop at words, inside) in
-        refused-there _ l (sample-short (drop at words) short)
+    -- the next record is not whole, or words are left over
+    pub walk-refused : {why : Refusal} → NoneFrom n rest why → samples_then f words ≡ refused (number_of why)
+    walk-refused {why} t = rw t.2 (go n refl)
+      where
+        go : (k : ℕ) → n ≡ k → samples_then f words ≡ refused (number_of refusal.BatchLength)
+        go zero e = words-over e (t.1 e)
+        go (suc k) e = refused-there e (sample-short rest (t.0 (omega (arith, e))))
 
-    pub record-refused : (n : ℕ) → i < count → at + record_words ≤ length words → judgement_of (take record_words (drop at words)) ≡ refused n
-        → samples_then f words ≡ refused n
-    record-refused n l h e = refused-there n l (sample-refused (drop at words) (long h) n e)
-
-    all_read : count ≤ i → samples_of words ≡ taken before (drop at words)
-    all_read l = left ∙ many-none sample_after count i before (drop at words) l
-
-    pub words_left : count ≤ i → at < length words → samples_then f words ≡ refused (number_of refusal.BatchLength)
+    pub walk-done : n ≡ 0 → length rest ≡ 0 → samples_then f words ≡ given (f before)
     unfolding samples_then
-    words_left l h =
-        let some : length (drop at words) ≡ 0 → ⊥ = λ z. omega (arith, length-drop at words) in
-        then-taken _ (all_read l) ∙ rw (ne_eqb (length (drop at words)) 0 some)
-
-    pub nothing_left : count ≤ i → length words ≤ at → samples_then f words ≡ given (f before)
-    unfolding samples_then
-    nothing_left l h =
-        let none : length (drop at words) ≡ 0 = omega (arith, length-drop at words) in
-        then-taken _ (all_read l) ∙ rw (eq-eqb (length (drop at words)) 0 none)
+    walk-done e h = then-taken _ (none e) ∙ rw (eq-eqb (length rest) 0 h)
 
 -- ---- from the samples to the batch: g is told of the batch that has the charts, where f is told of its samples
 

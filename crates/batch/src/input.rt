@@ -15,8 +15,5 @@ pub const MOST_BYTES: usize = WORD_BYTES * MOST_WORDS;
 pub fn is_input(bytes: &[u8]) -> bool
     ensures { result ≡ is_input bytes.now }
 {
-    if bytes.len() % WORD_BYTES != 0 {
-        return false;
-    }
-    bytes.len() <= MOST_BYTES
+    bytes.len() % WORD_BYTES == 0 && bytes.len() <= MOST_BYTES
 }

@@ -32,7 +32,7 @@ module _ (f : SetupTerms) (v w : ℕ) (one two : Bool) where
   same false false far h = simp and-false
 
 pub pair_is : (f : SetupTerms) (l : List ℕ) (i : ℕ)
-    → pair_beyond_two f l i ≡ (beyond f 2 (get_or l i 0) && (has_partner f (get_or l i 0) l i 1 || has_partner f (get_or l i 0) l i 2))
+    → pair_beyond_two f l i ≡ (beyond f 2 (get_or l i 0) && (has_partner f l i 1 || has_partner f l i 2))
 unfolding pair_beyond_two pair_on beyond_two beyond_two_before has_partner every
 pair_is f l i =
     let v = get_or l i 0 in

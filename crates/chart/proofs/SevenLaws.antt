@@ -8,7 +8,7 @@ use lib.ListN.{take, drop}
 use borrow.Author.Tests.{le-leb, lt-leb}
 use Rattle.chart.specs.Setups.{SetupTerms}
 use Rattle.chart.specs.Rules.{earlier, seven_on_one_side, seven_in_order}
-use Rattle.chart.specs.Steps.{by_mean, on_one_side, in_order}
+use Rattle.chart.specs.Steps.{on_one_side, in_order}
 
 module _ (f : SetupTerms) (l : List ℕ) (i : ℕ) where
   abbrev part : List ℕ
@@ -18,7 +18,7 @@ module _ (f : SetupTerms) (l : List ℕ) (i : ℕ) where
   unfolding seven_on_one_side seven_in_order
   too-early h = rw (lt-leb earlier i h) (refl, refl)
 
-  pub of_part : earlier ≤ i → (seven_on_one_side f l i ≡ on_one_side (by_mean f.n f.S) part) × (seven_in_order l i ≡ in_order part)
+  pub of_part : earlier ≤ i → (seven_on_one_side f l i ≡ on_one_side f part) × (seven_in_order l i ≡ in_order part)
   unfolding seven_on_one_side seven_in_order
   of_part h =
       let e : i + 1 - (i - earlier) ≡ earlier + 1 = omega arith in

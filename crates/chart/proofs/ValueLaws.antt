@@ -1,22 +1,19 @@
 -- What the tests of a chart's values tell: which counts fit, and which values are accepted; and what is answered after them.
-use mathlib.Core.Path.{◌≡◌, refl, sym, ap, ◌∙◌}
+use mathlib.Core.Path.{◌≡◌, refl, sym, ◌∙◌}
 use mathlib.Core.Bool.{Bool, true, false, ◌&&◌}
 use mathlib.Core.List.{List, [], ◌∷◌, ◌++◌}
-use Prim.Native.Nat.{ℕ, ◌≤◌}
+use Prim.Native.Nat.{ℕ, ◌≤◌, ◌<◌}
 use lib.Dec.{leb}
-use lib.ListN.{length}
+use lib.ListN.{length, get_or}
 use borrow.Author.Tests.{leb-true}
 use Rattle.refusal.specs.Outcome.{Outcome}
 use Rattle.refusal.specs.Outcome.Outcome.{given, refused}
 use Rattle.refusal.specs.Numbers.{number_of}
-use Rattle.refusal.specs.declared.Refusal.{Refusal}
 use Rattle.refusal.specs.declared.Refusal.TheVariants as refusal
 use Rattle.refusal.proofs.Testing.{both}
 use Rattle.refusal.proofs.Rows.{row, row-given, row-refused}
-use Rattle.chart.specs.declared.values.Tested.{Tested}
-use Rattle.chart.specs.declared.values.Tested.TheVariants as variant
-use Rattle.chart.specs.Values.{every, greatest_value, is_value, all_values, least_setup, most_setup, most_later, counts_fit, tested, test_of, tested_outcome}
-use Rattle.chart.proofs.EveryLaws.{every_append}
+use Rattle.chart.specs.Values.{every, greatest_value, is_value, all_values, least_setup, most_setup, most_later, counts_fit, tested}
+use Rattle.chart.proofs.EveryLaws.{every_append, every_at}
 
 -- ---- the counts
 pub counts-within : (setup later : ℕ) → counts_fit setup later ≡ true
@@ -35,6 +32,14 @@ pub values-each : (v : ℕ) (l : List ℕ) → all_values (v ∷ l) ≡ true →
 unfolding every
 values-each v l e = let p = both (is_value v) (all_values l) e in (leb-true v greatest_value p.0, p.1)
 
+module _ (l : List ℕ) (e : all_values l ≡ true) where
+  pub value_at : (i : ℕ) → i < length l → get_or l i 0 ≤ greatest_value
+  value_at i h = leb-true (get_or l i 0) greatest_value (every_at is_value l i h e)
+
+  pub values-pair : (i k : ℕ) → i < length l → k < length l → all_values (get_or l i 0 ∷ get_or l k 0 ∷ []) ≡ true
+  unfolding every
+  values-pair i k h g = rw (every_at is_value l i h e, every_at is_value l k g e)
+
 -- ---- the answers
 pub record Valid (a l : List ℕ) : Type 0 where
   pub counts : counts_fit (length a) (length l) ≡ true
@@ -42,10 +47,6 @@ pub record Valid (a l : List ℕ) : Type 0 where
   pub later : all_values l ≡ true
 
 module _ (a l : List ℕ) {A : Type 0} (rest : Outcome A) where
-  pub counts-refused : counts_fit (length a) (length l) ≡ false → tested a l rest ≡ refused (number_of refusal.Count)
-  unfolding tested
-  counts-refused e = rw e
-
   pub values-refused : counts_fit (length a) (length l) ≡ true → (all_values a && all_values l) ≡ false
       → tested a l rest ≡ refused (number_of refusal.Chart)
   unfolding tested
@@ -64,16 +65,15 @@ module _ (a l : List ℕ) where
   unfolding tested
   in_row rest = refl
 
-  module _ {r : Tested} (answer : tested_outcome r ≡ test_of a l) where
-    pub accepted-valid : r ≡ variant.Accepted → Valid a l
-    unfolding test_of
-    accepted-valid is =
-        let p = (row-given tests (given tt) tt (sym (in_row (given tt)) ∙ sym answer ∙ ap tested_outcome is)).0 in
-        let values = both (all_values a) (all_values l) p.1.0 in
-        record { counts = p.0; setup = values.0; later = values.1 }
+  module _ {A : Type 0} (x : A) where
+    -- a value was given: the tests passed, and it is that of the rest
+    pub accepted : {y : A} → given y ≡ tested a l (given x) → Valid a l × (y ≡ x)
+    accepted {y} e =
+        let p = row-given tests (given x) y (sym (in_row (given x)) ∙ sym e) in
+        let values = both (all_values a) (all_values l) p.0.1.0 in
+        let same : y ≡ x = cc (p.1) in
+        (record { counts = p.0.0; setup = values.0; later = values.1 }, same)
 
     -- whatever was to be answered, the refusal is
-    pub refused-for-all : {why : Refusal} → r ≡ variant.Refused why → {A : Type 0} (rest : Outcome A) → refused (number_of why) ≡ tested a l rest
-    unfolding test_of
-    refused-for-all {why} is rest =
-        sym (in_row rest ∙ row-refused tests tt (number_of why) (sym (in_row (given tt)) ∙ sym answer ∙ ap tested_outcome is) rest)
+    pub refused-for-all : {n : ℕ} → refused n ≡ tested a l (given x) → {B : Type 0} (rest : Outcome B) → refused n ≡ tested a l rest
+    refused-for-all {n} e rest = sym (in_row rest ∙ row-refused tests x n (sym (in_row (given x)) ∙ sym e) rest)

@@ -1,11 +1,12 @@
 -- The signal words as a loop writes them, one a turn, to the front of a slice; and the last of them.
 use mathlib.Core.Path.{◌≡◌, refl, sym, ◌∙◌}
-use mathlib.Core.List.{List, [], ◌++◌}
+use mathlib.Core.List.{List, []}
 use Prim.Native.Nat.{ℕ, zero, suc, ◌+◌, ◌-◌, ◌≤◌, ◌<◌}
 use native.Mathlib.Numerals.{add-one}
 use native.Mathlib.Omega.{arith}
-use lib.ListN.{length, get_or, drop, set, length-append, get_or-eq_default}
-use lib.Seq.{drop-cons, set_at, append_snoc, get_or_at}
+use lib.ListN.{length, get_or, take, set, length-append, get_or-eq_default}
+use lib.Seq.{get_or_at}
+use Rattle.std.proofs.lemmas.List.{take_all, take_more_set}
 use Rattle.chart.specs.Setups.{SetupTerms, setup_of}
 use Rattle.chart.specs.Rules.{signal_at}
 use Rattle.chart.specs.Charts.{first_words, signal_words, last_word}
@@ -16,23 +17,15 @@ module _ (f : SetupTerms) (l : List ℕ) where
   length-first zero = refl
   length-first (suc k) = length-append (first_words f l k) _ ∙ omega (arith, length-first k)
 
-  -- ---- the loop: after i turns the first i words are written, and the rest of the slice is as it was
-  pub none_written : (old : List ℕ) → old ≡ first_words f l 0 ++ drop 0 old
+  -- ---- the loop: after i turns the first i words are written
+  pub none_written : (out : List ℕ) → take 0 out ≡ first_words f l 0
   unfolding first_words
-  none_written old = refl
+  none_written out = refl
 
-  pub one_more : (old out : List ℕ) (i w : ℕ) → i < length old → out ≡ first_words f l i ++ drop i old → w ≡ signal_at f l i
-      → set out i w ≡ first_words f l (i + 1) ++ drop (i + 1) old
+  pub one_more : (out : List ℕ) (i w : ℕ) → i < length out → take i out ≡ first_words f l i → w ≡ signal_at f l i
+      → take (i + 1) (set out i w) ≡ first_words f l (i + 1)
   unfolding first_words
-  one_more old out i w h p q =
-      rw (
-        p,
-        q,
-        add-one,
-        drop-cons old i 0 h,
-        set_at (first_words f l i) (get_or old i 0) (drop (suc i) old) (signal_at f l i) i (length-first i),
-      )
-      (sym (append_snoc (first_words f l i) (signal_at f l i) (drop (suc i) old)))
+  one_more out i w h p q = rw (take_more_set out i w h, add-one, p, q)
 
   -- ---- the last of them
   last-at : (k : ℕ) → 1 ≤ k → get_or (first_words f l k) (k - 1) 0 ≡ signal_at f l (k - 1)
@@ -47,10 +40,9 @@ module _ (a l : List ℕ) where
   unfolding signal_words
   length-words = length-first (setup_of a) l (length l)
 
-  pub all-written : (old out : List ℕ) (i : ℕ) → i ≡ length l → out ≡ first_words (setup_of a) l i ++ drop i old
-      → out ≡ signal_words a l ++ drop (length (signal_words a l)) old
+  pub all-written : (out : List ℕ) {i : ℕ} → i ≡ length l → length out ≤ i → take i out ≡ first_words (setup_of a) l i → out ≡ signal_words a l
   unfolding signal_words
-  all-written old out i e p = rw (length-words) (rw e at p)
+  all-written out {i} e h p = rw (sym e) (sym (take_all i out h) ∙ p)
 
   pub last-is : 1 ≤ length l → signal_at (setup_of a) l (length l - 1) ≡ last_word a l
   unfolding last_word signal_words

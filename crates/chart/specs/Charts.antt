@@ -1,11 +1,8 @@
 -- Document 01, 'Charts': what is answered to a chart alone.
 use Rattle.std.specs.Prelude.{List, [], ◌∷◌, ◌++◌, ℕ, zero, suc, ◌-◌, length, get_or}
 use Rattle.refusal.specs.Outcome.{Outcome}
-use Rattle.refusal.specs.Outcome.Outcome.{given, refused}
-use Rattle.refusal.specs.Numbers.{number_of}
+use Rattle.refusal.specs.Outcome.Outcome.{given}
 use Rattle.chart.specs.Values.{tested}
-use Rattle.chart.specs.declared.Last.{Last}
-use Rattle.chart.specs.declared.Last.TheVariants as last
 use Rattle.chart.specs.Setups.{SetupTerms, setup_of}
 use Rattle.chart.specs.Rules.{signal_at}
 
@@ -28,7 +25,3 @@ signals_of setup later = tested setup later (given (signal_words setup later))
 
 unfoldable pub last_signal_of : List ℕ → List ℕ → Outcome ℕ
 last_signal_of setup later = tested setup later (given (last_word setup later))
-
-abbrev pub last_outcome : Last → Outcome ℕ
-last_outcome (last.Given word) = given word
-last_outcome (last.Refused why) = refused (number_of why)

@@ -2,11 +2,9 @@
 -- that it may not.
 use Rattle.std.specs.Prelude.{Bool, true, ◌&&◌, List, [], ◌∷◌, ℕ, leb, length}
 use Rattle.refusal.specs.Outcome.{Outcome, demand}
-use Rattle.refusal.specs.Outcome.Outcome.{given, refused}
+use Rattle.refusal.specs.Outcome.Outcome.{given}
 use Rattle.refusal.specs.Numbers.{number_of}
 use Rattle.refusal.specs.declared.Refusal.TheVariants as refusal
-use Rattle.chart.specs.declared.values.Tested.{Tested}
-use Rattle.chart.specs.declared.values.Tested.TheVariants as variant
 
 -- a test passes at every value of a list
 unfoldable pub every : (ℕ → Bool) → List ℕ → Bool
@@ -46,8 +44,3 @@ tested setup later rest =
 -- the two tests alone: nothing is given but that both pass
 unfoldable pub test_of : List ℕ → List ℕ → Outcome (Unit {0})
 test_of setup later = tested setup later (given tt)
-
--- what was answered
-abbrev pub tested_outcome : Tested → Outcome (Unit {0})
-tested_outcome variant.Accepted = given tt
-tested_outcome (variant.Refused why) = refused (number_of why)

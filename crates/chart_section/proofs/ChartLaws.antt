@@ -8,7 +8,7 @@ use native.Mathlib.Nat.{add_assoc}
 use borrow.Author.Tests.{le-leb, lt-leb}
 use lib.ListN.{length, get_or, take, drop, length-drop}
 use lib.Seq.{take-add, drop-drop, length-take-le}
-use Rattle.refusal.specs.Outcome.{Outcome, demand}
+use Rattle.refusal.specs.Outcome.{outcome_of, Outcome, demand}
 use Rattle.refusal.specs.Outcome.Outcome.{given, refused}
 use Rattle.refusal.specs.Numbers.{number_of}
 use Rattle.refusal.specs.declared.Refusal.{Refusal}
@@ -16,15 +16,12 @@ use Rattle.refusal.specs.declared.Refusal.TheVariants as refusal
 use Rattle.refusal.proofs.Testing.{both}
 use Rattle.chart.specs.Values.{counts_fit, all_values}
 use Rattle.chart.proofs.ValueLaws.{values-append}
-use Rattle.chart.specs.declared.Last.{Last}
-use Rattle.chart.specs.declared.Last.TheVariants as last
-use Rattle.chart.specs.Charts.{last_signal_of, last_outcome}
+use Rattle.std.specs.Prelude.{Result, Ok, Err}
+use Rattle.chart.specs.Charts.{last_signal_of}
 use Rattle.chart.proofs.Laws.{last-given, last-refused}
 use Rattle.words.specs.FromFront.{taken}
-use Rattle.words.proofs.SliceLaws.{part_of}
-use Rattle.chart_section.specs.declared.first.ChartRead.TheVariants as chart-read
+use Rattle.words.proofs.SliceLaws.{part_of, rest_of}
 use Rattle.chart_section.specs.ChartSection.{Chart, head_words, is_new_element, values_of, chart_with, chart_of, signal_of}
-use Rattle.chart_section.specs.Steps.{ChartSaid}
 
 -- ---- the first three words
 
@@ -96,11 +93,14 @@ module _ (e setup later : ℕ) (s : List ℕ) where
         rw (part_of s head_words setup, part_of s (head_words + setup) later, ← drop-drop setup head_words s)
         (values-told e setup later (drop head_words s) fits (omega (arith, length-drop head_words s)))
 
-    module _ {r : Last} (signal : last_outcome r ≡ lent_signal) where
-      pub values-taken : {g : ℕ} → r ≡ last.Given g → ChartSaid (chart-read.Chart e g (head_words + setup + later)) (values_of e setup later (drop head_words s)) s
+    module _ {r : Result ℕ Refusal} (signal : outcome_of r ≡ lent_signal) where
+      pub values-taken : {g : ℕ} → r ≡ Ok g
+          → (c : Chart) × (values_of e setup later (drop head_words s) ≡ taken c (take (length s - (head_words + setup + later)) (drop (head_words + setup + later) s)))
+          × (c.element ≡ e) × (signal_of c ≡ g)
       values-taken {g} is =
-          let t = subst (Told e setup later (drop head_words s)) (sym signal ∙ ap last_outcome is) lent-told in
-          (chart e setup later (drop head_words s), t.0 ∙ rw (drop-drop (setup + later) head_words s, add_assoc head_words setup later), h, refl, t.1)
+          let t = subst (Told e setup later (drop head_words s)) (sym signal ∙ ap outcome_of is) lent-told in
+          let behind : drop (setup + later) (drop head_words s) ≡ drop (head_words + setup + later) s = drop-drop (setup + later) head_words s ∙ rw (add_assoc head_words setup later) in
+          (chart e setup later (drop head_words s), t.0 ∙ ap (taken _) (behind ∙ sym (rest_of s (head_words + setup + later))), refl, t.1)
 
-      pub values-refused : {why : Refusal} → r ≡ last.Refused why → values_of e setup later (drop head_words s) ≡ refused (number_of why)
-      values-refused is = subst (Told e setup later (drop head_words s)) (sym signal ∙ ap last_outcome is) lent-told
+      pub values-refused : {why : Refusal} → r ≡ Err why → values_of e setup later (drop head_words s) ≡ refused (number_of why)
+      values-refused is = subst (Told e setup later (drop head_words s)) (sym signal ∙ ap outcome_of is) lent-told

@@ -89,3 +89,7 @@ pub charts-most : (cs : List Chart) → ValidCharts cs → length (section_words
 charts-most cs v =
     let each = each-every ValidAfter (λ c. length (chart_words c) ≤ most_chart) chart-most [] cs v.each in
     omega (arith, v.few, words-most chart_words most_chart cs each)
+
+-- so what is left after them is no longer than the words
+pub charts-within : (s rest : List ℕ) (cs : List Chart) → charts_of s ≡ taken cs rest → length rest ≤ length s
+charts-within s rest cs e = omega (arith, ap length (charts-stand s cs rest e), length-append (section_words chart_words cs) rest)

@@ -1,13 +1,11 @@
 -- What is answered to the charts' section at the front of words, the whole of it: how reading it ended, how many charts there are,
 -- and two columns, each one's element and its last signal.
-use Rattle.std.specs.Prelude.{List, [], ◌++◌, ℕ, ◌-◌, length, replicate}
-use Rattle.refusal.specs.Outcome.{Outcome}
+use Rattle.std.specs.Prelude.{List, [], ◌++◌, ℕ, ◌-◌, length, map, replicate}
+use Rattle.refusal.specs.Outcome.{Outcome, outcome_of}
 use Rattle.refusal.specs.Outcome.Outcome.{given, refused}
-use Rattle.refusal.specs.Numbers.{number_of}
 use Rattle.words.specs.FromFront.{Read}
-use Rattle.chart_section.specs.declared.Ended.{Ended}
-use Rattle.chart_section.specs.declared.Ended.TheVariants as ended
-use Rattle.chart_section.specs.declared.ChartColumns.{ChartColumns}
+use Rattle.chart_section.specs.declared.columns.ChartColumns.{ChartColumns}
+use Rattle.chart_section.specs.declared.columns.ChartSignal.{ChartSignal}
 use Rattle.chart_section.specs.ChartSection.{Chart, most_charts, elements_of, signals_in, charts_of}
 
 pub record ColumnTerms : Type 0 where
@@ -34,10 +32,13 @@ columns_by s (refused n) = columns_with (refused n) []
 unfoldable pub columns_of : List ℕ → ColumnTerms
 columns_of s = columns_by s (charts_of s)
 
--- what was answered, in these terms
-abbrev pub end_of : Ended → Outcome ℕ
-end_of (ended.Whole size) = given size
-end_of (ended.Refused why) = refused (number_of why)
+-- the two columns of what the charts tell
+abbrev pub elements_in : List ChartSignal → List ℕ
+elements_in l = map (λ (c : ChartSignal). c.element) l
 
+abbrev pub signals_held : List ChartSignal → List ℕ
+signals_held l = map (λ (c : ChartSignal). c.signal) l
+
+-- what was answered, in these terms
 abbrev pub terms_of : ChartColumns → ColumnTerms
-terms_of r = record { ended = end_of r.ended; count = r.count; elements = r.elements; signals = r.signals }
+terms_of r = record { ended = outcome_of r.ended; count = r.count; elements = elements_in r.charts; signals = signals_held r.charts }

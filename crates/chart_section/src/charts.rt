@@ -1,56 +1,50 @@
-// The charts one after another, and their two columns.
-ghost use Rattle.std.specs.Prelude.{◌≡◌, [], ◌≤◌, length, get_or};
+// The charts one after another.
+ghost use Rattle.std.specs.Prelude.{◌≡◌, []};
 ghost use Rattle.refusal.specs.Outcome.Outcome.{refused};
 ghost use Rattle.refusal.specs.Numbers.{number_of};
-ghost use Rattle.chart_section.specs.ChartSection.{most_charts};
-ghost use Rattle.chart_section.specs.Columns.{columns_with, columns_of, terms_of};
+ghost use Rattle.chart_section.specs.Columns.{columns_with, terms_of};
+ghost use Rattle.chart_section.specs.Steps.{SectionSaid};
 
-use crate::first::ChartRead;
-use crate::{ChartColumns, Ended, MOST_CHARTS, first};
+use crate::{ChartColumns, ChartSignal, MOST_CHARTS, first};
 use refusal::Refusal;
+
+// What stands in a place beyond the last chart.
+const NO_CHART: ChartSignal = ChartSignal {
+    element: 0,
+    signal: 0,
+};
 
 // Why there are no charts.
 pub fn refused(why: Refusal) -> ChartColumns
     ensures { terms_of result ≡ columns_with (refused (number_of why)) [] }
 {
     ChartColumns {
-        ended: Ended::Refused(why),
+        ended: Err(why),
         count: 0,
-        elements: [0u32; MOST_CHARTS],
-        signals: [0u32; MOST_CHARTS],
+        charts: [NO_CHART; MOST_CHARTS],
     }
 }
 
-// Reads so many charts, after the section's count.
-pub fn read_all(words: &[u32], count: usize) -> ChartColumns
-    requires { (1 ≤ length words.now) × (get_or words.now 0 0 ≡ count) × (count ≤ most_charts) }
-    ensures { terms_of result ≡ columns_of words.now }
+// Reads as many charts as the section's count says, or says why it is refused.
+pub fn read_all(words: &[u32]) -> Result<ChartColumns, Refusal>
+    ensures { SectionSaid result words.now }
 {
-    let mut elements = [0u32; MOST_CHARTS];
-    let mut signals = [0u32; MOST_CHARTS];
-    let mut at: usize = 1;
-    let mut i: usize = 0;
-    while i < count {
-        match first::read_one(&words[at..], &elements[0..i]) {
-            ChartRead::Chart {
-                element,
-                signal,
-                size,
-            } => {
-                elements[i] = element;
-                signals[i] = signal;
-                at += size;
-                i += 1;
-            }
-            ChartRead::Refused(why) => {
-                return refused(why);
-            }
-        }
+    let Some((&count, mut rest)) = words.split_first() else {
+        return Err(Refusal::BatchLength);
+    };
+    let count = count as usize;
+    if count > MOST_CHARTS {
+        return Err(Refusal::Count);
     }
-    ChartColumns {
-        ended: Ended::Whole(at),
+    let mut charts = [NO_CHART; MOST_CHARTS];
+    for i in 0..count {
+        let read = first::read_one(rest, &charts[..i])?;
+        charts[i] = read.chart;
+        rest = read.rest;
+    }
+    Ok(ChartColumns {
+        ended: Ok(words.len() - rest.len()),
         count,
-        elements,
-        signals,
-    }
+        charts,
+    })
 }

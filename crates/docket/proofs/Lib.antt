@@ -1,5 +1,4 @@
 -- The laws behind this crate's contracts, and the proof of the list theorem.
-mod CopyLaws
 mod TakenLaws
 mod OfferLaws
 mod PlainLaws

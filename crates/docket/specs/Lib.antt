@@ -1,6 +1,7 @@
--- Document 01, 'The docket', in the order to read it. `Steps` is the code's own form: pass over it.
+-- Document 01, 'The docket', in the order to read it.
 pub mod Terms
+pub mod Numbers
 pub mod Offers
+pub mod After
 pub mod Plain
 pub mod Following
-pub mod Steps

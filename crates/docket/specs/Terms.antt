@@ -1,14 +1,11 @@
 -- Document 01, 'The docket': its terms, and what the values of this crate mean in them. The definitions of the other files
 -- are in these terms alone.
-use Rattle.std.specs.Prelude.{Bool, true, false, List, ℕ}
-use Rattle.refusal.specs.Outcome.{Outcome}
-use Rattle.refusal.specs.Outcome.Outcome.{given, refused}
-use Rattle.refusal.specs.Numbers.{number_of}
+use Rattle.std.specs.Prelude.{Bool, true, false, List, ℕ, Result}
+use Rattle.refusal.specs.declared.Refusal.{Refusal}
+use Rattle.refusal.specs.Outcome.{Outcome, outcome_by}
 use Rattle.docket.specs.declared.State.{State}
 use Rattle.docket.specs.declared.State.TheVariants as state
 use Rattle.docket.specs.declared.Docket.{Docket}
-use Rattle.docket.specs.declared.Answer.{Answer}
-use Rattle.docket.specs.declared.Answer.TheVariants as answer
 use Rattle.docket.specs.declared.Offered.{Offered}
 
 -- where a docket stands: 'open, consistent, confirmed or unsettled'
@@ -43,9 +40,8 @@ docket_of d = record { state = standing_of d.state; count = d.count; held = d.he
 pub data Reply : Type 0 where
   taken : Reply
 
-abbrev pub answer_outcome : Answer → Outcome Reply
-answer_outcome answer.Taken = given taken
-answer_outcome (answer.Refused why) = refused (number_of why)
+abbrev pub answer_outcome : Result (Unit {0}) Refusal → Outcome Reply
+answer_outcome = outcome_by (λ accepted. taken)
 
 -- the docket after an offer, and the answer
 pub record OfferedTerms : Type 0 where

@@ -1,83 +1,72 @@
-// What is answered to an offer: by a docket that is not open, by one that took nothing, and by one that waits for a repeat.
-ghost use Rattle.std.specs.Prelude.{◌≡◌, false};
-ghost use Rattle.refusal.specs.Outcome.Outcome.{given};
-ghost use Rattle.refusal.specs.Numbers.{number_of};
-ghost use Rattle.judge.specs.Judgements.{numbers_of, judgement_of};
-ghost use Rattle.judge.specs.Repeats.{comparison_outcome, comparison_of};
-ghost use Rattle.docket.specs.Terms.{standing_of, is_open, docket_of, offered_of};
-ghost use Rattle.docket.specs.Offers.{refused_offer, offer_of};
-ghost use Rattle.docket.specs.Steps.{Empty, Waiting};
+// The ways of an offer: to a docket that is not open, to one that took nothing, and to one that waits for a repeat.
+ghost use Rattle.std.specs.Prelude.{◌≡◌, ◌<◌, length, Ok};
+ghost use Rattle.judge.specs.Judgements.{numbers_of};
+ghost use Rattle.judge.specs.Passing.{all_passed};
+ghost use Rattle.judge.specs.Repeats.{record_words};
+ghost use Rattle.docket.specs.Terms.{standing_of, docket_of, most_taken};
+ghost use Rattle.docket.specs.Offers.{standing_after, taken_offer, offer_of};
+ghost use Rattle.docket.specs.After.{offered_by};
 
-use crate::{Answer, Docket, MOST, Offered, taking};
-use judge::{Acceptance, Comparison, Judgement, Verdicts};
+use crate::{Docket, MOST, State};
+use judge::{Comparison, Verdicts, WORDS};
 use refusal::Refusal;
 
-// Closed: nothing is judged or compared, only the record's own tests go before refusal 11.
-pub fn offer_closed(docket: Docket, words: &[u32]) -> Offered
-    requires { is_open (standing_of docket.state) ≡ false }
-    ensures { offered_of result ≡ offer_of (docket_of docket) words.now }
-{
-    match judge::test(words) {
-        Acceptance::Accepted => refused(docket, Refusal::DocketClosed),
-        Acceptance::Refused(why) => refused(docket, why),
+impl Docket {
+    // The docket after an offer that it takes, or why it takes none.
+    pub fn after(self, words: &[u32]) -> Result<Docket, Refusal>
+        ensures { offered_by (docket_of self) result ≡ offer_of (docket_of self) words.now }
+    {
+        // Closed: nothing is judged or compared, only the record's own tests go before refusal 11.
+        if !self.state.is_open() {
+            judge::test(words)?;
+            return Err(Refusal::DocketClosed);
+        }
+        // Empty: nothing is held that the record could be compared with.
+        if self.count == 0 {
+            let verdicts = judge::judge(words)?;
+            return Ok(self.take(words, verdicts, false));
+        }
+        // A repeat is judged and compared with the record held at once, so that each is tested once.
+        let repeat = judge::judge_repeat(&self.held, words);
+        let verdicts = repeat.judgement?;
+        // No offers produce an open docket with a count above 2, or one that holds what is no record.
+        if self.count >= MOST {
+            return Err(Refusal::DocketClosed);
+        }
+        match repeat.comparison {
+            Ok(Comparison::Agree) => Ok(self.take(words, verdicts, true)),
+            Ok(Comparison::Differ) => Ok(self.take(words, verdicts, false)),
+            Ok(Comparison::OtherSample) => Err(Refusal::OtherSample),
+            Err(_) => Err(Refusal::DocketClosed),
+        }
+    }
+
+    // The docket after a record with these verdicts, that agrees with the one before it or not: the count rises by one and the
+    // record is held.
+    fn take(self, words: &[u32], verdicts: Verdicts, confirms: bool) -> Docket
+        requires { (length words.now ≡ record_words) × (self.count < most_taken) }
+        ensures { offered_by (docket_of self) (Ok result) ≡ taken_offer self.count words.now (all_passed (numbers_of verdicts)) confirms }
+    {
+        let count = self.count + 1;
+        let state = state_after(count, verdicts.all_passed(), confirms);
+        let mut held = [0u32; WORDS];
+        held.copy_from_slice(words);
+        Docket { state, count, held }
     }
 }
 
-// Empty: nothing is held that the record could be compared with.
-pub fn offer_first(docket: Docket, words: &[u32]) -> Offered
-    requires { Empty (docket_of docket) }
-    ensures { offered_of result ≡ offer_of (docket_of docket) words.now }
+// Where a docket stands with its count-th record, that passed or not, and agrees with the one before it or not.
+// Two answers of yes or no, as the definition has them.
+fn state_after(count: u32, passed: bool, confirms: bool) -> State
+    ensures { standing_of result ≡ standing_after count passed confirms }
 {
-    match judge::judge(words) {
-        Judgement::Judged(verdicts) => taking::take(0, words, verdicts, false),
-        Judgement::Refused(why) => refused(docket, why),
-    }
-}
-
-// A repeat is judged and compared with the record held at once, so that each is tested once.
-pub fn offer_repeat(docket: Docket, words: &[u32]) -> Offered
-    requires { Waiting (docket_of docket) }
-    ensures { offered_of result ≡ offer_of (docket_of docket) words.now }
-{
-    let repeat = judge::judge_repeat(&docket.held, words);
-    let comparison = repeat.comparison;
-    let judgement = repeat.judgement;
-    match judgement {
-        Judgement::Judged(verdicts) => offer_judged(docket, words, verdicts, comparison),
-        Judgement::Refused(why) => refused(docket, why),
-    }
-}
-
-// A repeat that its own tests accept: it is refused 11 or 12, or taken. No offers produce a docket with a count above 2,
-// or one that holds what is no record.
-fn offer_judged(
-    docket: Docket,
-    words: &[u32],
-    verdicts: Verdicts,
-    comparison: Comparison,
-) -> Offered
-    requires waiting { Waiting (docket_of docket) }
-    requires judged { judgement_of words.now ≡ given (numbers_of verdicts) }
-    requires compared { comparison_outcome comparison ≡ comparison_of docket.held words.now }
-    ensures { offered_of result ≡ offer_of (docket_of docket) words.now }
-{
-    if docket.count >= MOST {
-        return refused(docket, Refusal::DocketClosed);
-    }
-    match comparison {
-        Comparison::Agree => taking::take(docket.count, words, verdicts, true),
-        Comparison::Differ => taking::take(docket.count, words, verdicts, false),
-        Comparison::OtherSample => refused(docket, Refusal::OtherSample),
-        Comparison::Refused(_) => refused(docket, Refusal::DocketClosed),
-    }
-}
-
-// The docket comes back as it was.
-fn refused(docket: Docket, why: Refusal) -> Offered
-    ensures { offered_of result ≡ refused_offer (docket_of docket) (number_of why) }
-{
-    Offered {
-        docket: docket,
-        answer: Answer::Refused(why),
+    if passed {
+        State::Consistent
+    } else if confirms {
+        State::Confirmed
+    } else if count == MOST {
+        State::Unsettled
+    } else {
+        State::Open
     }
 }

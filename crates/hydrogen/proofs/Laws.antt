@@ -70,7 +70,7 @@ pub record FloorGiven (p h : ℕ) : Type 0 where
 
 pub floor-given : (p h : ℕ) → floor_of p ≡ given h → FloorGiven p h
 floor-given p h e =
-    ⊎_elim (λ o. let z : ◌≡◌ {A = ℕ} 0 1 = cc (floor-out-of-range p o) in absurd (omega arith))
+    ⊎_elim (λ o. cc (floor-out-of-range p o))
     (λ i. record { least = i.0; most = i.1; is = cc (floor-in-range p i.0 i.1) })
     (range-of p)
 
@@ -82,7 +82,7 @@ pub record FloorRefused (p n : ℕ) : Type 0 where
 pub floor-refused : (p n : ℕ) → floor_of p ≡ refused n → FloorRefused p n
 floor-refused p n e =
     ⊎_elim (λ o. record { out = o; number = cc (floor-out-of-range p o) })
-    (λ i. let z : ◌≡◌ {A = ℕ} 0 1 = cc (floor-in-range p i.0 i.1) in absurd (omega arith))
+    (λ i. cc (floor-in-range p i.0 i.1))
     (range-of p)
 
 -- a difference, x times

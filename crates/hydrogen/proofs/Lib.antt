@@ -5,7 +5,6 @@ mod HundredLaws
 mod FloorTable
 mod Exact
 mod Rule
-mod RowLaws
 mod Placing
 mod Order
 pub mod Laws

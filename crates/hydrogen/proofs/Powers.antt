@@ -1,19 +1,14 @@
 -- Hundredth powers: of a product, and that they keep the order of numbers, both ways.
-use mathlib.Core.Path.{◌≡◌, sym, ap, ap₂, ◌∙◌}
-use Prim.Native.Nat.{ℕ, zero, suc, ◌*◌, ◌^◌, ◌≤◌, ◌<◌}
-use native.Mathlib.Nat.{pow-le-pow_left, pow-suc, pow-zero, one-le-pow, mul-mul-mul_comm}
+use mathlib.Core.Path.{◌≡◌}
+use Prim.Native.Nat.{ℕ, ◌*◌, ◌≤◌, ◌<◌}
+use native.Mathlib.Nat.{pow-le-pow_left, one-le-pow}
 use native.Mathlib.Omega.{arith}
+use Rattle.std.proofs.lemmas.Nat.{mul-pow}
 use Rattle.refusal.proofs.Powers.{power-lt-back, power-le-back, le-power}
 use Rattle.hydrogen.specs.Floors.{hundredth}
 
-mul_power : (a b n : ℕ) → (a * b) ^ n ≡ a ^ n * b ^ n
-mul_power a b zero = pow-zero (a * b) ∙ sym (ap₂ (λ (x y : ℕ). x * y) (pow-zero a) (pow-zero b))
-mul_power a b (suc n) =
-    pow-suc (a * b) n ∙ ap (λ (x : ℕ). x * (a * b)) (mul_power a b n) ∙ mul-mul-mul_comm (a ^ n) (b ^ n) a b
-    ∙ sym (ap₂ (λ (x y : ℕ). x * y) (pow-suc a n) (pow-suc b n))
-
 pub of-product : (a b : ℕ) → hundredth (a * b) ≡ hundredth a * hundredth b
-of-product a b = mul_power a b _
+of-product a b = mul-pow a b _
 
 pub keeps-le : {a b : ℕ} → a ≤ b → hundredth a ≤ hundredth b
 keeps-le l = pow-le-pow_left l _

@@ -2,18 +2,17 @@
 #![tactic(auto)]
 
 mod hundreds;
-mod rows;
 mod table;
 
 ghost use Rattle.std.specs.Prelude.{◌≡◌, ◌≤◌};
-ghost use Rattle.hydrogen.specs.Answers.{floor_outcome};
+ghost use Rattle.refusal.specs.Outcome.{outcome_of};
 ghost use Rattle.hydrogen.specs.Floors.{least_ph, greatest_ph, is_whole, floor_of};
 ghost use Rattle.hydrogen.specs.TrueHydrogen.{HydrogenAt};
 
 use refusal::Refusal;
 
 // The greatest floor.
-pub use rows::MOST_FLOOR;
+pub use table::MOST_FLOOR;
 
 // The least p.
 const LEAST_PH: u32 = 200;
@@ -24,27 +23,22 @@ const GREATEST_PH: u32 = 1000;
 // A unit of pH in hundredths.
 const PER_PH: u32 = 100;
 
-// The floor of true hydrogen in u, which is 10^-9 µeq/L, or why there is none.
-#[derive(Clone, Copy)]
-pub enum FloorResult {
-    Given(u64),
-    Refused(Refusal),
-}
-
-// The floor of true hydrogen at p. The second promise says where H itself stands to it.
-pub fn floor_at(p: u32) -> FloorResult
-    ensures answer { floor_outcome result ≡ floor_of p }
+// The floor of true hydrogen at p in u, which is 10^-9 µeq/L, or why there is none. The second promise says where H
+// itself stands to it.
+pub fn floor_at(p: u32) -> Result<u64, Refusal>
+    ensures answer { outcome_of result ≡ floor_of p }
     ensures truth { least_ph ≤ p → p ≤ greatest_ph → HydrogenAt p }
 {
+    // Two comparisons and no range's `contains`, which leaves harder goals to prove.
     if p < LEAST_PH || p > GREATEST_PH {
-        return FloorResult::Refused(Refusal::Ph);
+        return Err(Refusal::Ph);
     }
-    FloorResult::Given(hundreds::floor(p))
+    Ok(hundreds::floor(p))
 }
 
 // Whether p is a whole pH, where true hydrogen is its floor.
 pub fn is_whole(p: u32) -> bool
     ensures { result ≡ is_whole p }
 {
-    p % PER_PH == 0
+    p.is_multiple_of(PER_PH)
 }

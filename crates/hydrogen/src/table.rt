@@ -1,37 +1,119 @@
-// An entry of the table of floors.
-ghost use Rattle.std.specs.Prelude.{◌≡◌, ◌+◌, ◌*◌, ◌≤◌, ◌<◌};
+// The table of the floors of true hydrogen for p from 200 to 299, in u. Document 01 asks for this form: a const u64
+// table whose hundredth-power rule is computed once over all entries.
+ghost use Rattle.std.specs.Prelude.{◌≡◌, ◌+◌, ◌<◌};
 ghost use Rattle.hydrogen.specs.Floors.{least_ph, floor_at};
 ghost use Rattle.hydrogen.specs.SmallerTable.{table_length};
-ghost use Rattle.hydrogen.specs.Steps.{row_length, floors_from};
 
-use crate::rows;
+// The floor at pH 2.00, the greatest.
+pub const MOST_FLOOR: u64 = 10000000000000;
+
+const FLOORS: [u64; 100] = [
+    MOST_FLOOR,
+    9772372209558,
+    9549925860214,
+    9332543007969,
+    9120108393559,
+    8912509381337,
+    8709635899560,
+    8511380382023,
+    8317637711026,
+    8128305161640,
+    7943282347242,
+    7762471166286,
+    7585775750291,
+    7413102413009,
+    7244359600749,
+    7079457843841,
+    6918309709189,
+    6760829753919,
+    6606934480075,
+    6456542290346,
+    6309573444801,
+    6165950018614,
+    6025595860743,
+    5888436553555,
+    5754399373371,
+    5623413251903,
+    5495408738576,
+    5370317963702,
+    5248074602497,
+    5128613839913,
+    5011872336272,
+    4897788193684,
+    4786300923226,
+    4677351412871,
+    4570881896148,
+    4466835921509,
+    4365158322401,
+    4265795188015,
+    4168693834703,
+    4073802778041,
+    3981071705534,
+    3890451449942,
+    3801893963205,
+    3715352290971,
+    3630780547701,
+    3548133892335,
+    3467368504525,
+    3388441561392,
+    3311311214825,
+    3235936569296,
+    3162277660168,
+    3090295432513,
+    3019951720402,
+    2951209226666,
+    2884031503126,
+    2818382931264,
+    2754228703338,
+    2691534803926,
+    2630267991895,
+    2570395782768,
+    2511886431509,
+    2454708915685,
+    2398832919019,
+    2344228815319,
+    2290867652767,
+    2238721138568,
+    2187761623949,
+    2137962089502,
+    2089296130854,
+    2041737944669,
+    1995262314968,
+    1949844599758,
+    1905460717963,
+    1862087136662,
+    1819700858609,
+    1778279410038,
+    1737800828749,
+    1698243652461,
+    1659586907437,
+    1621810097358,
+    1584893192461,
+    1548816618912,
+    1513561248436,
+    1479108388168,
+    1445439770745,
+    1412537544622,
+    1380384264602,
+    1348962882591,
+    1318256738556,
+    1288249551693,
+    1258925411794,
+    1230268770812,
+    1202264434617,
+    1174897554939,
+    1148153621496,
+    1122018454301,
+    1096478196143,
+    1071519305237,
+    1047128548050,
+    1023292992280,
+];
 
 // The entry at a place, counted from 0: the floor at so many p above the least.
 pub fn entry(place: u32) -> u64
     requires { place < table_length }
     ensures { result ≡ floor_at (least_ph + place) }
 {
-    let row = row(place / rows::ROW as u32);
-    let column = place as usize % rows::ROW;
-    row[column]
-}
-
-// A row by its number. A const array is built anew wherever it is read; a match whose arms are short rows becomes
-// read-only data.
-fn row(number: u32) -> [u64; rows::ROW]
-    requires { row_length * number + row_length ≤ table_length }
-    ensures { result ≡ floors_from (least_ph + row_length * number) row_length }
-{
-    match number {
-        0 => rows::PH_2_0,
-        1 => rows::PH_2_1,
-        2 => rows::PH_2_2,
-        3 => rows::PH_2_3,
-        4 => rows::PH_2_4,
-        5 => rows::PH_2_5,
-        6 => rows::PH_2_6,
-        7 => rows::PH_2_7,
-        8 => rows::PH_2_8,
-        _ => rows::PH_2_9,
-    }
+    FLOORS[place as usize]
 }

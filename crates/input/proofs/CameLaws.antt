@@ -1,12 +1,12 @@
 -- Of a buffer whose first bytes were read and made words: what is said of them, and what the lent slice then holds.
-use mathlib.Core.Path.{◌≡◌, sym, ap, ◌∙◌}
+use mathlib.Core.Path.{◌≡◌, sym, ap}
 use mathlib.Core.List.{List}
 use Prim.Native.Nat.{ℕ, suc, ◌-◌, ◌/◌, ◌≤◌, ◌<◌}
 use native.Mathlib.Omega.{arith}
 use native.Mathlib.Decide.{dec_le}
 use mir.Syntax.{w8}
 use mir.Val.{Fits}
-use lib.ListN.{length, get_or, take, drop, length-take, get_or-eq_default}
+use lib.ListN.{length, get_or, take, length-take, get_or-eq_default}
 use lib.Seq.{get_or-take, length-take-le}
 use Rattle.words.specs.Words.{words_of, word_bytes}
 use Rattle.words.specs.Placing.{within, placed_within}
@@ -24,10 +24,10 @@ first-bytes l bytes n i = go (dec_le (suc i) n)
 module _ (old buffer : List ℕ) (got : ℕ) (bytes : (i : ℕ) → Fits w8 (get_or buffer i 0)) (h : got ≤ length buffer) (few : got ≤ most_bytes old) where
   -- as the code lends them
   abbrev lent_bytes : List ℕ
-  lent_bytes = take (got - 0) (drop 0 buffer)
+  lent_bytes = take got buffer
 
   counted : length lent_bytes ≡ got
-  counted = length-take-le (got - 0) buffer (omega arith) ∙ omega arith
+  counted = length-take-le got buffer h
 
   pub came : {count : ℕ} {new : List ℕ} → count ≡ length (within old 0 (words_of lent_bytes)) → new ≡ placed_within old 0 (words_of lent_bytes) → count ≤ length new
       → Came old new (record { bytes = got; words = count })
@@ -36,7 +36,7 @@ module _ (old buffer : List ℕ) (got : ℕ) (bytes : (i : ℕ) → Fits w8 (get
       let first : take (count - 0) new ≡ words_of lent_bytes = unpacked old lent_bytes room many lent in
       record {
         read = lent_bytes;
-        are_bytes = first-bytes buffer (λ (i : ℕ). (bytes i).fits) (got - 0);
+        are_bytes = first-bytes buffer (λ (i : ℕ). (bytes i).fits) got;
         few = omega (arith, counted);
         bytes = sym counted;
         words = omega (arith, ap length first, length-take (count - 0) new);

@@ -13,7 +13,8 @@ pub const MOST_WORDS: usize = 1024;
 const MOST_BYTES: usize = MOST_WORDS * WORD_BYTES;
 
 // What came: so many bytes, and so many whole words.
-#[derive(Clone, Copy)]
+#[derive(Clone, Copy, Debug, PartialEq, Eq)]
+// No `Option`: that no byte came says that the input has ended, as it does of a `Read`.
 pub struct Got {
     pub bytes: usize,
     pub words: usize,
@@ -25,19 +26,21 @@ pub fn read<R: Read>(input: &mut R, words: &mut [u32]) -> Got
     ensures came { Came words.old words.new result }
     ensures inside { result.words ≤ length words.new }
 {
-    let wanted = lesser(words.len(), MOST_WORDS) * WORD_BYTES;
+    let wanted = words.len().min(MOST_WORDS) * WORD_BYTES;
+    // No heap: room for the most words of a call, of which a slice goes on.
     let mut buffer = [0u8; MOST_BYTES];
-    fill(input, words, &mut buffer, wanted)
+    fill(input, &mut buffer[..wanted], words)
 }
 
-// The same through a buffer, for so many bytes.
-fn fill<R: Read>(input: &mut R, words: &mut [u32], buffer: &mut [u8], wanted: usize) -> Got
-    requires { (wanted ≤ length buffer.old) × (wanted ≤ most_bytes words.old) }
+// The same through bytes that are lent, which are no more than the words have. By itself, since a proof knows of lent bytes that
+// each is one, and not of an array that was lent to a call.
+fn fill<R: Read>(input: &mut R, bytes: &mut [u8], words: &mut [u32]) -> Got
+    requires { length bytes.old ≤ most_bytes words.old }
     ensures came { Came words.old words.new result }
     ensures inside { result.words ≤ length words.new }
 {
-    let got = read_full(input, &mut buffer[0..wanted]);
-    let whole = words::unpack(&buffer[0..got], words);
+    let got = read_full(input, bytes);
+    let whole = words::unpack(&bytes[..got], words);
     Got {
         bytes: got,
         words: whole,
@@ -49,6 +52,7 @@ pub fn read_full<R: Read>(input: &mut R, bytes: &mut [u8]) -> usize
     ensures inside { result ≤ length bytes.new }
 {
     let mut done = 0;
+    // A count, and no `for`: how many bytes a turn brings is the reader's to say.
     while done < bytes.len() {
         let came = input.read(&mut bytes[done..]).unwrap_or(0);
         if came == 0 {
@@ -57,12 +61,6 @@ pub fn read_full<R: Read>(input: &mut R, bytes: &mut [u8]) -> usize
         done += came;
     }
     done
-}
-
-fn lesser(a: usize, b: usize) -> usize
-    ensures { (result ≤ a) × (result ≤ b) }
-{
-    if a < b { a } else { b }
 }
 
 #[cfg(test)]

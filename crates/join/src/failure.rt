@@ -15,14 +15,11 @@ pub fn tell(rt: &impl Eprint, what: &str, why: io::Error) -> io::Result<()> {
 
 // The text before the first zero, and without the number that stands after the system's own.
 fn text_of(written: &[u8]) -> &str {
-    let end = written.iter().position(|byte| *byte == 0);
-    let text = match end {
-        Some(n) => &written[..n],
-        None => written,
-    };
-    let text = str::from_utf8(text).unwrap_or("");
-    match text.split_once(" (os error ") {
-        Some((before, _)) => before,
-        None => text,
-    }
+    let end = written
+        .iter()
+        .position(|byte| *byte == 0)
+        .unwrap_or(written.len());
+    let text = str::from_utf8(&written[..end]).unwrap_or("");
+    text.split_once(" (os error ")
+        .map_or(text, |(before, _)| before)
 }

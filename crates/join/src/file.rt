@@ -1,5 +1,5 @@
 // The bytes of a file that an argument names.
-ghost use Rattle.std.specs.Prelude.{◌≤◌, length, IfOk};
+ghost use Rattle.std.specs.Prelude.{◌≤◌, length, IfOk, IfSome};
 
 use crate::failure;
 use std::env::FillError;
@@ -11,75 +11,48 @@ use std::{io, str};
 // The most bytes of a path.
 const MOST_PATH: usize = 4096;
 
-// How many bytes came, or that the file could not be read.
-#[derive(Clone, Copy)]
-pub struct Got {
-    pub is_read: bool,
-    pub count: usize,
-}
-
-fn nothing() -> Got
-    ensures { result.count ≤ 0 }
-{
-    Got {
-        is_read: false,
-        count: 0,
-    }
-}
-
 // Which file could not be read, what was expected of it, and why it could not.
 fn complain(rt: &impl Eprint, path: &str, why: io::Error) -> io::Result<()> {
     eprint!(rt; "join: expected a file of little-endian words, ")?;
     failure::tell(rt, path, why)
 }
 
-// The same of an argument that can't be read itself, by what it stands for.
-fn complain_of(rt: &impl Eprint, argument: usize, why: io::Error) -> io::Result<()> {
-    if argument == 1 {
-        complain(rt, "FIRST", why)
-    } else {
-        complain(rt, "SECOND", why)
-    }
-}
-
-// Reads the file that an argument names, as far as the slice goes.
-pub fn read(rt: &(impl Env + Files + Eprint), argument: usize, bytes: &mut [u8]) -> io::Result<Got>
-    ensures { IfOk result (λ got. got.count ≤ length bytes.new) }
+// Reads the file that an argument names, as far as the slice goes, and answers how many bytes came, or none where the file could not
+// be read and that has been said: of an argument that can't be read itself, by what it stands for.
+pub fn read(
+    rt: &(impl Env + Files + Eprint),
+    argument: usize,
+    stands_for: &str,
+    bytes: &mut [u8],
+) -> io::Result<Option<usize>>
+    ensures { IfOk result (λ came. IfSome came (λ count. count ≤ length bytes.new)) }
 {
     let mut space = [0u8; MOST_PATH];
+    // No `?` here or below: a failure that was told is not handed on.
     let path = match path_of(rt, argument, &mut space) {
         Ok(path) => path,
-        Err(why) => {
-            complain_of(rt, argument, why)?;
-            return Ok(nothing());
-        }
+        Err(why) => return complain(rt, stands_for, why).map(|()| None),
     };
     match read_file(rt, path, bytes) {
-        Ok(count) => Ok(Got {
-            is_read: true,
-            count,
-        }),
-        Err(why) => {
-            complain(rt, path, why)?;
-            Ok(nothing())
-        }
+        Ok(count) => Ok(Some(count)),
+        Err(why) => complain(rt, path, why).map(|()| None),
     }
 }
 
 // The argument's text, which is put at the start of the slice.
 fn path_of<'a>(rt: &impl Env, argument: usize, space: &'a mut [u8]) -> io::Result<&'a str> {
-    match rt.arg(argument, space) {
-        Ok(n) => match str::from_utf8(&space[..n]) {
-            Ok(path) => Ok(path),
-            Err(_) => Err(io::Error::new(ErrorKind::InvalidFilename, "Invalid UTF-8")),
-        },
-        Err(FillError::TooLong) => Err(io::Error::new(
-            ErrorKind::InvalidFilename,
-            "File name too long",
-        )),
-        Err(FillError::NotPresent) => {
-            Err(io::Error::new(ErrorKind::InvalidInput, "Invalid argument"))
-        }
+    let n = rt.arg(argument, space).map_err(unread)?;
+    str::from_utf8(&space[..n]).map_err(|_| io::Error::new(
+        ErrorKind::InvalidFilename,
+        "Invalid UTF-8",
+    ))
+}
+
+// Why an argument can't be read, in the words of the system's own failures.
+fn unread(why: FillError) -> io::Error {
+    match why {
+        FillError::TooLong => io::Error::new(ErrorKind::InvalidFilename, "File name too long"),
+        FillError::NotPresent => io::Error::new(ErrorKind::InvalidInput, "Invalid argument"),
     }
 }
 

@@ -6,7 +6,6 @@ mod failure;
 mod file;
 
 use batch::input::MOST_BYTES;
-use refusal::{Refusal, Written};
 use std::env::FillError;
 use std::io;
 use std::rt::Env;
@@ -14,34 +13,27 @@ use std::rt::Env;
 // One byte more than the longest batch has, so that a longer file is seen to be longer and refused, never cut.
 const ROOM: usize = MOST_BYTES + 1;
 
-fn print_refused(rt: &impl Print, why: Refusal) -> io::Result<()> {
-    let number = why.number();
-    println!(rt; "refused {number}")
-}
-
 fn write_file(rt: &(impl Print + Eprint), bytes: &[u8]) -> io::Result<()> {
-    match rt.write_all(bytes) {
-        Ok(()) => Ok(()),
-        Err(why) => failure::tell(rt, "join: the joined file was not written", why),
-    }
+    rt.write_all(bytes).or_else(|why| failure::tell(
+        rt,
+        "join: the joined file was not written",
+        why,
+    ))
 }
 
 fn join(rt: &(impl Print + Eprint), first: &[u8], second: &[u8]) -> io::Result<()> {
     let mut joined = [0u8; MOST_BYTES];
+    // By `match`: a refusal is an answer, and printed.
     match joining::files::join_bytes(first, second, &mut joined) {
-        Written::Length(size) => write_file(rt, &joined[0..size]),
-        Written::Refused(why) => print_refused(rt, why),
+        Ok(size) => write_file(rt, &joined[..size]),
+        Err(why) => println!(rt; "{why}"),
     }
 }
 
 // Whether there is such an argument. One that is too long to be read is there too.
 fn is_given(rt: &impl Env, argument: usize) -> bool {
     let mut space = [0u8; 1];
-    match rt.arg(argument, &mut space) {
-        Ok(_) => true,
-        Err(FillError::TooLong) => true,
-        Err(FillError::NotPresent) => false,
-    }
+    !matches!(rt.arg(argument, &mut space), Err(FillError::NotPresent))
 }
 
 fn main(rt: HostRuntime) -> io::Result<()> {
@@ -50,16 +42,12 @@ fn main(rt: HostRuntime) -> io::Result<()> {
         return eprintln!(rt; "join: expected two files of little-endian words: join FIRST SECOND");
     }
     let mut first = [0u8; ROOM];
-    let one = file::read(&rt, 1, &mut first)?;
-    if !one.is_read {
+    let Some(n) = file::read(&rt, 1, "FIRST", &mut first)? else {
         return Ok(());
-    }
+    };
     let mut second = [0u8; ROOM];
-    let other = file::read(&rt, 2, &mut second)?;
-    if !other.is_read {
+    let Some(m) = file::read(&rt, 2, "SECOND", &mut second)? else {
         return Ok(());
-    }
-    let n = one.count;
-    let m = other.count;
-    join(&rt, &first[0..n], &second[0..m])
+    };
+    join(&rt, &first[..n], &second[..m])
 }

@@ -6,7 +6,6 @@ mod ChartLaws
 mod FoundLaws
 mod RowLaws
 pub mod Laws
-mod SameLaws
 mod WalkLaws
 mod PutLaws
 mod StepLaws

@@ -3,15 +3,14 @@ use mathlib.Core.Path.{◌≡◌, refl, sym, ap, ◌∙◌}
 use mathlib.Core.Bool.{true, true≢false}
 use mathlib.Core.List.{List}
 use Prim.Native.Nat.{ℕ}
-use Rattle.refusal.specs.Outcome.{Outcome, is_given}
+use Rattle.refusal.specs.Outcome.{outcome_of, Outcome, is_given}
 use Rattle.refusal.specs.Outcome.Outcome.{given, refused}
 use Rattle.refusal.specs.Numbers.{number_of}
 use Rattle.refusal.specs.declared.Refusal.{Refusal}
 use Rattle.refusal.proofs.LentLaws.{Answers, refused-before}
 use Rattle.refusal.proofs.Outcomes.{never}
-use Rattle.judge.specs.declared.Acceptance.{Acceptance}
-use Rattle.judge.specs.declared.Acceptance.TheVariants as acceptance
-use Rattle.judge.specs.Repeats.{acceptance_outcome}
+use Rattle.std.specs.Prelude.{Result}
+use Rattle.std.specs.Prelude.{Ok, Err}
 use Rattle.batch.specs.Batches.{Batch, batch_of, tested_by, test_of}
 use Rattle.joining.specs.Joins.{joined_by, joined_of}
 use Rattle.joining.specs.Steps.{HasBatch}
@@ -24,14 +23,14 @@ tested-refused : (x : Outcome Batch) (n : ℕ) → refused n ≡ tested_by x →
 tested-refused (given b) n e = never e
 tested-refused (refused m) n e = let same : m ≡ n = cc in ap refused same
 
-module _ (s : List ℕ) {r : Acceptance} (told : acceptance_outcome r ≡ test_of s) where
-  pub own-passes : r ≡ acceptance.Accepted → HasBatch s
+module _ (s : List ℕ) {r : Result (Unit {0}) Refusal} (told : outcome_of r ≡ test_of s) where
+  pub own-passes : r ≡ Ok tt → HasBatch s
   unfolding test_of
-  own-passes is = tested-given (batch_of s) (sym (ap acceptance_outcome is) ∙ told)
+  own-passes is = tested-given (batch_of s) (sym (ap outcome_of is) ∙ told)
 
-  own-refused : {why : Refusal} → r ≡ acceptance.Refused why → batch_of s ≡ refused (number_of why)
+  own-refused : {why : Refusal} → r ≡ Err why → batch_of s ≡ refused (number_of why)
   unfolding test_of
-  own-refused {why} is = tested-refused (batch_of s) (number_of why) (sym (ap acceptance_outcome is) ∙ told)
+  own-refused {why} is = tested-refused (batch_of s) (number_of why) (sym (ap outcome_of is) ∙ told)
 
 -- where the first is refused, so are both; where the second is, so are both behind a first that passes
 first-refuses : (x y : Outcome Batch) {n : ℕ} → x ≡ refused n → joined_by x y ≡ refused n
@@ -42,13 +41,13 @@ second-refuses (given a) y h e = rw e
 second-refuses (refused m) y h e = absurd (true≢false (sym h))
 
 module _ (first second old : List ℕ) where
-  pub first-own-refused : {r : Acceptance} → acceptance_outcome r ≡ test_of first → {why : Refusal} → r ≡ acceptance.Refused why
+  pub first-own-refused : {r : Result (Unit {0}) Refusal} → outcome_of r ≡ test_of first → {why : Refusal} → r ≡ Err why
       → Answers (joined_of first second) old (refused (number_of why)) old
   unfolding joined_of
   first-own-refused told {why} is =
       refused-before (joined_of first second) old (number_of why) (sym (first-refuses (batch_of first) (batch_of second) (own-refused first told is)))
 
-  pub second-own-refused : HasBatch first → {r : Acceptance} → acceptance_outcome r ≡ test_of second → {why : Refusal} → r ≡ acceptance.Refused why
+  pub second-own-refused : HasBatch first → {r : Result (Unit {0}) Refusal} → outcome_of r ≡ test_of second → {why : Refusal} → r ≡ Err why
       → Answers (joined_of first second) old (refused (number_of why)) old
   unfolding joined_of
   second-own-refused has told {why} is =

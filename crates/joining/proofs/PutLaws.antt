@@ -1,54 +1,48 @@
--- A chart at the front of the words s, put into the buffer: its head, its values, and more of them.
+-- The parts of a chart at the front of words; and words put behind those that the buffer holds, a chart as four runs of them.
 use mathlib.Core.Path.{◌≡◌, refl, sym, ap, ◌∙◌}
 use mathlib.Core.List.{List, [], ◌∷◌, ◌++◌, append_assoc, append-nil}
-use Prim.Native.Nat.{ℕ, ◌+◌, ◌-◌, ◌≤◌}
-use native.Mathlib.Omega.{arith}
-use lib.ListN.{length, get_or, take, drop, length-append, length-drop}
-use lib.Seq.{take-add, drop-drop, length-take-le}
-use Rattle.refusal.specs.Lent.{placed}
+use Prim.Native.Nat.{ℕ, ◌+◌, ◌≤◌}
+use lib.ListN.{length, get_or, take, drop, length-append}
+use lib.Seq.{drop-drop}
+use Rattle.refusal.proofs.PlaceLaws.{placed-take}
 use Rattle.words.specs.Placing.{placed_within}
-use Rattle.words.proofs.Laws.{placed-all, placed-behind}
+use Rattle.words.proofs.Laws.{placed-all}
 use Rattle.chart_section.specs.ChartSection.{Chart, head_words, chart_words}
-use Rattle.joining.specs.Steps.{chart_size, chart_at, ChartThere, more_later}
+use Rattle.joining.specs.Steps.{chart_size, more_later}
 
-module _ (s : List ℕ) (p : ChartThere s) where
-  setup-long : length (chart_at s).setup ≡ get_or s 1 0
-  setup-long = length-take-le (get_or s 1 0) (drop head_words s) (omega (arith, p.whole, length-drop head_words s))
+-- the head's words are the first of all
+pub heads : (s : List ℕ) → (get_or (take head_words s) 0 0 ≡ get_or s 0 0) × (get_or (take head_words s) 1 0 ≡ get_or s 1 0) × (get_or (take head_words s) 2 0 ≡ get_or s 2 0)
+heads [] = (refl, refl, refl)
+heads (a ∷ []) = (refl, refl, refl)
+heads (a ∷ b ∷ []) = (refl, refl, refl)
+heads (a ∷ b ∷ c ∷ s) = (refl, refl, refl)
 
-  pub later-long : length (chart_at s).later ≡ get_or s 2 0
-  later-long =
-      length-take-le (get_or s 2 0) (drop (head_words + get_or s 1 0) s) (omega (arith, p.whole, length-drop (head_words + get_or s 1 0) s))
+-- what is behind the head, then the setup values, then the later ones
+pub split_rest : (s : List ℕ) {head values laters rest : List ℕ} → head ≡ take head_words s → values ≡ drop head_words s
+    → laters ≡ drop (get_or head 1 0) values → rest ≡ drop (get_or head 2 0) laters → rest ≡ drop (chart_size s) s
+split_rest s {head} h v l r =
+    let heads = heads s in
+    let setup : get_or head 1 0 ≡ get_or s 1 0 = ap (λ (t : List ℕ). get_or t 1 0) h ∙ heads.1 in
+    let later : get_or head 2 0 ≡ get_or s 2 0 = ap (λ (t : List ℕ). get_or t 2 0) h ∙ heads.2 in
+    r
+    ∙ rw (l, v, setup, later) (ap (drop (get_or s 2 0)) (drop-drop (get_or s 1 0) head_words s) ∙ drop-drop (get_or s 2 0) (head_words + get_or s 1 0) s)
 
-  values-there : take (chart_size s - head_words) (drop head_words s) ≡ (chart_at s).setup ++ (chart_at s).later
-  values-there =
-      let e : chart_size s - head_words ≡ get_or s 1 0 + get_or s 2 0 = omega arith in
-      rw (e, take-add (get_or s 1 0) (get_or s 2 0) (drop head_words s), drop-drop (get_or s 1 0) head_words s)
+pub put_behind : (old : List ℕ) (size : ℕ) {next : List ℕ} (t : List ℕ) → size + length t ≤ length old → next ≡ placed_within old size t
+    → take (size + length t) next ≡ take size old ++ t
+put_behind old size t h e = ap (take (size + length t)) (e ∙ placed-all old size t h) ∙ placed-take old t size h
 
-  module _ (more : List ℕ) where
-    pub more-long : length (chart_words (more_later (chart_at s) more)) ≡ chart_size s + length more
-    more-long =
-        omega (arith, setup-long, later-long, length-append (chart_at s).later more, length-append (chart_at s).setup ((chart_at s).later ++ more))
-
-    pub put_whole : (old a b c : List ℕ) (at size later : ℕ) → at + chart_size s + length more ≤ length old → size ≡ chart_size s → later ≡ length more
-        → a ≡ placed_within old at (get_or s 0 0 ∷ get_or s 1 0 ∷ (get_or s 2 0 + later) ∷ [])
-        → b ≡ placed_within a (at + head_words) (take (size - head_words) (drop head_words s))
-        → c ≡ placed_within b (at + size) more
-        → c ≡ placed old at (chart_words (more_later (chart_at s) more))
-    put_whole old a b c at size later h e n p₁ p₂ p₃ =
-        let head : List ℕ = get_or s 0 0 ∷ get_or s 1 0 ∷ (get_or s 2 0 + later) ∷ [] in
-        let values : List ℕ = take (size - head_words) (drop head_words s) in
-        let size' : chart_size s - head_words ≡ size - head_words = omega (arith, e) in
-        let same : values ≡ (chart_at s).setup ++ (chart_at s).later = ap (λ (k : ℕ). take k (drop head_words s)) (sym size') ∙ values-there in
-        let sum = length-append (chart_at s).setup (chart_at s).later in
-        let long : length values ≡ get_or s 1 0 + get_or s 2 0 = omega (arith, ap length same, sum, setup-long, later-long) in
-        let first : a ≡ placed old at head = p₁ ∙ placed-all old at head (omega arith) in
-        let second : b ≡ placed old at (head ++ values) = placed-behind old at (at + head_words) head values (omega arith) first refl p₂ in
-        let third : c ≡ placed old at ((head ++ values) ++ more) =
-        placed-behind old at (at + size) (head ++ values) more (omega (arith, length-append head values)) second (omega (arith, length-append head values)) p₃ in
-        let laters : length ((chart_at s).later ++ more) ≡ get_or s 2 0 + later = omega (arith, length-append (chart_at s).later more, later-long) in
-        third
-        ∙ ap (λ (l : List ℕ). placed old at ((head ++ l) ++ more)) same
-        ∙ rw (setup-long, laters, append_assoc (chart_at s).setup (chart_at s).later more)
+module _ (c : Chart) (more : List ℕ) where
+  pub put_whole : (held h₁ h₂ h₃ h₄ : List ℕ) {n m : ℕ} → n ≡ length c.setup → m ≡ length c.later + length more
+      → h₁ ≡ held ++ (c.element ∷ n ∷ m ∷ []) → h₂ ≡ h₁ ++ c.setup → h₃ ≡ h₂ ++ c.later → h₄ ≡ h₃ ++ more → h₄ ≡ held ++ chart_words (more_later c more)
+  put_whole held h₁ h₂ h₃ h₄ {n} {m} e f p₁ p₂ p₃ p₄ =
+      let head : List ℕ = c.element ∷ n ∷ m ∷ [] in
+      let laters : m ≡ length (c.later ++ more) = f ∙ sym (length-append c.later more) in
+      p₄
+      ∙ ap (λ (l : List ℕ). l ++ more) (p₃ ∙ ap (λ (l : List ℕ). l ++ c.later) (p₂ ∙ ap (λ (l : List ℕ). l ++ c.setup) p₁))
+      ∙ append_assoc ((held ++ head) ++ c.setup) c.later more
+      ∙ append_assoc (held ++ head) c.setup (c.later ++ more)
+      ∙ append_assoc held head (c.setup ++ (c.later ++ more))
+      ∙ rw (e, laters)
 
 pub no_more : (c : Chart) → more_later c [] ≡ c
 no_more c = rw (append-nil c.later)

@@ -1,10 +1,11 @@
 -- The joined batch written to the lent slice, five runs of words one behind another; and the ways out before that.
-use mathlib.Core.Path.{◌≡◌, refl, sym, ap, ◌∙◌}
+use mathlib.Core.Path.{◌≡◌, refl, sym, ap, subst, ◌∙◌}
 use mathlib.Core.List.{List, [], ◌∷◌, ◌++◌, append_assoc}
 use Prim.Native.Nat.{ℕ, ◌+◌, ◌-◌, ◌≤◌, ◌<◌}
 use native.Mathlib.Omega.{arith}
 use borrow.Author.Tests.{le-leb, lt-leb}
 use lib.ListN.{length, get_or, take, drop, length-append, length-drop}
+use Rattle.refusal.specs.Outcome.{Outcome}
 use Rattle.refusal.specs.Outcome.Outcome.{given, refused}
 use Rattle.refusal.specs.Numbers.{number_of}
 use Rattle.refusal.specs.Lent.{placed}
@@ -78,3 +79,8 @@ module _ (count : ℕ) (charts first second old : List ℕ) where
         in
         written-whole (finished count charts first second) old words whole (omega (arith, long)) (sym long)
         (fifth-run ∙ ap (placed old 0) all ∙ placed-front old words)
+
+-- the same of charts that are lent under another name
+pub write_same : (count : ℕ) (first second old : List ℕ) {charts held : List ℕ} {x : Outcome ℕ} {new : List ℕ} → charts ≡ held
+    → Answers (finished count charts first second) old x new → Answers (finished count held first second) old x new
+write_same count first second old {charts} {held} {x} {new} e d = subst (λ (w : List ℕ). Answers (finished count w first second) old x new) e d

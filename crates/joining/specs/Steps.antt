@@ -1,24 +1,20 @@
 -- The code's own form, which a reader of the promises can pass over: only the contracts of private functions cite it.
-use Rattle.std.specs.Prelude.{◌≡◌, true, List, [], ◌∷◌, ◌++◌, map, ℕ, ◌+◌, ◌*◌, ◌≤◌, leb, length, get_or, take, drop}
+use Rattle.std.specs.Prelude.{◌≡◌, true, List, [], ◌∷◌, ◌++◌, map, ℕ, ◌+◌, ◌*◌, ◌≤◌, leb, length, get_or, take, drop, Option, Some, None, Result, Ok, Err}
+use Rattle.std.specs.Borrow.{Bor}
 use Rattle.refusal.specs.Outcome.{Outcome, demand, is_given}
 use Rattle.refusal.specs.Outcome.Outcome.{given, refused}
 use Rattle.refusal.specs.Numbers.{number_of}
-use Rattle.refusal.specs.Lent.{placed}
+use Rattle.refusal.specs.declared.Refusal.{Refusal}
 use Rattle.refusal.specs.declared.Refusal.TheVariants as refusal
 use Rattle.record.specs.Record.{record_words}
 use Rattle.chart.specs.Values.{most_setup, most_later}
 use Rattle.words.specs.FromFront.{Read}
 use Rattle.words.specs.Sections.{all_words}
-use Rattle.chart_section.specs.ChartSection.{Chart, head_words, most_chart, most_charts, charts_of, chart_words}
+use Rattle.chart_section.specs.ChartSection.{Chart, head_words, charts_of, chart_words}
 use Rattle.batch.specs.Batches.{most_samples, batch_of}
-use Rattle.joining.specs.declared.finding.Found.{Found}
-use Rattle.joining.specs.declared.finding.Found.TheVariants as found
-use Rattle.joining.specs.declared.first.ChartJoined.{ChartJoined}
-use Rattle.joining.specs.declared.first.ChartJoined.TheVariants as chart-joined
-use Rattle.joining.specs.declared.first.FirstJoined.{FirstJoined}
-use Rattle.joining.specs.declared.first.FirstJoined.TheVariants as first-joined
-use Rattle.joining.specs.declared.second.Added.{Added}
-use Rattle.joining.specs.Charts.{Match, key_of, joined_with, joined_chart, joined_charts, tested_with, tested_charts}
+use Rattle.joining.specs.declared.buffer.Buffer.{Buffer}
+use Rattle.joining.specs.declared.chart_at.Chart.{Chart as LentChart}
+use Rattle.joining.specs.Charts.{Match, key_of, joined_with, joined_chart, tested_with, tested_charts}
 
 -- ---- words that have passed the tests of a batch
 
@@ -62,57 +58,39 @@ pub record ChartThere (s : List ℕ) : Type 0 where
 abbrev pub more_later : Chart → List ℕ → Chart
 more_later c more = record { element = c.element; setup = c.setup; later = c.later ++ more }
 
-abbrev pub FoundSaid : Found → Match → List ℕ → Type 0
-FoundSaid (found.At at) m s = (m ≡ Match.both (chart_at (drop at s))) × ChartThere (drop at s) × (at ≤ length s)
-FoundSaid found.Nothing m s = m ≡ Match.alone
+-- a chart as the code has it, and what was found
+abbrev pub terms_of : LentChart → Chart
+terms_of c = record { element = c.element; setup = c.setup.now; later = c.later.now }
+
+abbrev pub match_of : Option LentChart → Match
+match_of (Some c) = Match.both (terms_of c)
+match_of None = Match.alone
 
 -- ---- the buffer of joined charts
 
-abbrev pub buffer_words : ℕ
-buffer_words = most_charts * most_chart
+abbrev pub held_words : Buffer → List ℕ
+held_words b = take b.size b.words
 
-pub record Filled (charts : List ℕ) (size : ℕ) (held : List Chart) : Type 0 where
-  pub room : length charts ≡ buffer_words
-  pub long : size ≡ length (all_words chart_words held)
-  pub holds : take size charts ≡ all_words chart_words held
-  pub bound : size ≤ most_chart * length held
+pub record Holds (b : Buffer) (held : List Chart) : Type 0 where
+  pub counted : b.count ≡ length held
+  pub words : held_words b ≡ all_words chart_words held
+
+-- one chart more
+pub record Put (old new : Buffer) (c : Chart) : Type 0 where
+  pub counted : new.count ≡ old.count + 1
+  pub words : held_words new ≡ held_words old ++ chart_words c
 
 -- a chart c of the first batch, for which the second has m
-abbrev pub ChartSaid : ChartJoined → Chart → Match → List ℕ → List ℕ → ℕ → Type 0
-ChartSaid (chart-joined.Joined end) c m old new at =
-    (new ≡ placed old at (chart_words (joined_with c m)))
-    × (end ≡ at + length (chart_words (joined_with c m)))
-    × (length (chart_words (joined_with c m)) ≤ most_chart)
-    × ((rest : Outcome (List ℕ)) → tested_with c m rest ≡ rest)
-ChartSaid (chart-joined.Refused why) c m old new at = (rest : Outcome (List ℕ)) → tested_with c m rest ≡ refused (number_of why)
+abbrev pub ChartSaid : Result (Unit {0}) Refusal → Chart → Match → Buffer → Buffer → Type 0
+ChartSaid (Ok u) c m old new = Put old new (joined_with c m) × ((rest : Outcome (List ℕ)) → tested_with c m rest ≡ rest)
+ChartSaid (Err why) c m old new = (rest : Outcome (List ℕ)) → tested_with c m rest ≡ refused (number_of why)
 
-abbrev pub FirstSaid : FirstJoined → List ℕ → List Chart → List ℕ → Type 0
-FirstSaid (first-joined.Joined at size) first second charts =
-    (drop at first ≡ rest_in first)
-    × (at ≤ length first)
-    × Filled charts size (map (joined_chart second) (charts_in first))
+abbrev pub FirstSaid : Result (Bor (List ℕ)) Refusal → List ℕ → List Chart → Buffer → Type 0
+FirstSaid (Ok words) first second buffer =
+    (words.now ≡ rest_in first)
+    × Holds buffer (map (joined_chart second) (charts_in first))
     × ((rest : Outcome (List ℕ)) → tested_charts (charts_in first) second rest ≡ rest)
-FirstSaid (first-joined.Refused why) first second charts = (rest : Outcome (List ℕ)) → tested_charts (charts_in first) second rest ≡ refused (number_of why)
-
--- a chart of the second batch at the front of the words s, for which the first has m
-abbrev pub Room : Match → ℕ → List ℕ → Type 0
-Room Match.alone size charts = size + most_chart ≤ length charts
-Room (Match.both d) size charts = Unit {0}
-
-abbrev pub AddedOne : Added → List ℕ → Match → List ℕ → List ℕ → ℕ → ℕ → Type 0
-AddedOne r s Match.alone old new size count =
-    (new ≡ placed old size (chart_words (chart_at s)))
-    × (r.size ≡ size + length (chart_words (chart_at s)))
-    × (r.count ≡ count + 1)
-    × (r.read ≡ chart_size s)
-AddedOne r s (Match.both d) old new size count = (new ≡ old) × (r.size ≡ size) × (r.count ≡ count) × (r.read ≡ chart_size s)
-
-abbrev pub AddedSaid : Added → List Chart → List ℕ → List ℕ → Type 0
-AddedSaid r first second charts =
-    (drop r.read second ≡ rest_in second)
-    × (r.read ≤ length second)
-    × (r.count ≡ length (joined_charts first (charts_in second)))
-    × Filled charts r.size (joined_charts first (charts_in second))
+FirstSaid (Err why) first second buffer = (rest : Outcome (List ℕ)) → tested_charts (charts_in first) second rest ≡ refused (number_of why)
 
 -- ---- the joined batch, of the words of so many charts and of both sections of samples
 

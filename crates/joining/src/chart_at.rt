@@ -1,28 +1,37 @@
 // The chart at the front of words that have been tested.
-ghost use Rattle.std.specs.Prelude.{◌≡◌};
-ghost use Rattle.joining.specs.Steps.{ChartThere, chart_size, key_at};
+ghost use Rattle.std.specs.Prelude.{◌≡◌, ◌≤◌, length, drop};
+ghost use Rattle.chart.specs.Values.{most_setup, most_later};
 
 use chart_section::{ELEMENT, HEAD_WORDS, LATER_COUNT, SETUP_COUNT};
 
-// What it is found by in the other batch: its element.
-pub fn key(words: &[u32]) -> u32
-    requires { ChartThere words.now }
-    ensures { result ≡ key_at words.now }
-{
-    words[ELEMENT]
+// A chart of a batch: what it is found by in the other one, its element, and its values, which are lent from the batch's words.
+#[derive(Clone, Copy)]
+// Nothing compares or prints it.
+pub struct Chart<'a> {
+    pub element: u32,
+    pub setup: &'a [u32],
+    pub later: &'a [u32],
+    ghost few_setup: { length setup.now ≤ most_setup },
+    ghost few_later: { length later.now ≤ most_later },
 }
 
-// How many words it has.
-pub fn size(words: &[u32]) -> usize
-    requires { ChartThere words.now }
-    ensures { result ≡ chart_size words.now }
-{
-    HEAD_WORDS + wide(words[SETUP_COUNT]) + wide(words[LATER_COUNT])
-}
+impl<'a> Chart<'a> {
+    ghost use Rattle.joining.specs.Steps.{ChartThere, chart_at, chart_size, terms_of};
 
-// A count, as the length that it is compared with.
-pub fn wide(x: u32) -> usize
-    ensures { result ≡ x }
-{
-    x as usize
+    // The chart, and the words behind it.
+    pub fn split(words: &'a [u32]) -> (Chart<'a>, &'a [u32])
+        requires { ChartThere words.now }
+        ensures chart { terms_of result.0 ≡ chart_at words.now }
+        ensures rest { result.1.now ≡ drop (chart_size words.now) words.now }
+    {
+        let (head, values) = words.split_at(HEAD_WORDS);
+        let (setup, values) = values.split_at(head[SETUP_COUNT] as usize);
+        let (later, rest) = values.split_at(head[LATER_COUNT] as usize);
+        let chart = Chart {
+            element: head[ELEMENT],
+            setup,
+            later,
+        };
+        (chart, rest)
+    }
 }

@@ -1,29 +1,23 @@
-// The chart of a key among those of a batch, by where it begins.
+// The chart of a key among those of a batch.
+ghost use Rattle.std.specs.Prelude.{◌≡◌};
 ghost use Rattle.joining.specs.Charts.{match_in};
-ghost use Rattle.joining.specs.Steps.{HasCharts, charts_in, FoundSaid};
+ghost use Rattle.joining.specs.Steps.{HasCharts, charts_in, match_of};
 
-use crate::chart_at;
-
-#[derive(Clone, Copy)]
-pub enum Found {
-    At(usize),
-    Nothing,
-}
+use crate::chart_at::Chart;
 
 // The words are those of a batch whose charts have been tested.
-pub fn find(words: &[u32], key: u32) -> Found
+// A clause and no type: what it says is of a batch's words whole, which its four callers hand on as they are.
+pub fn find<'a>(words: &'a [u32], key: u32) -> Option<Chart<'a>>
     requires { HasCharts words.now }
-    ensures { FoundSaid result (match_in (charts_in words.now) key) words.now }
+    ensures { match_of result ≡ match_in (charts_in words.now) key }
 {
-    let count = chart_at::wide(words[0]);
-    let mut at: usize = 1;
-    let mut i: usize = 0;
-    while i < count {
-        if chart_at::key(&words[at..]) == key {
-            return Found::At(at);
+    let mut rest = &words[1..];
+    for _ in 0..words[0] {
+        let (chart, after) = Chart::split(rest);
+        if chart.element == key {
+            return Some(chart);
         }
-        at += chart_at::size(&words[at..]);
-        i += 1;
+        rest = after;
     }
-    Found::Nothing
+    None
 }

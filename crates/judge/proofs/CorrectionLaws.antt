@@ -5,9 +5,9 @@ use native.Mathlib.Nat.{le_trans}
 use native.Mathlib.Omega.{arith}
 use lib.Dec.{lit≤}
 use Rattle.activity.specs.declared.Correction.{Correction}
-use Rattle.activity.specs.declared.Correction.TheVariants.{Between, TooStrong}
+use Rattle.std.specs.Prelude.{Option, None, Some}
 use Rattle.activity.specs.Strength.{strongest}
-use Rattle.activity.specs.Brackets.{unit, correction_of}
+use Rattle.activity.specs.Brackets.{between, unit, correction_of}
 use Rattle.activity.proofs.Laws.{bracket-given, lower-positive, ends-ordered, lower-most, upper-most}
 use Rattle.solution.specs.Ions.{cation_factor, anion_factor, charge_number, sum}
 use Rattle.solution.specs.Solutions.{SumRanges}
@@ -27,7 +27,7 @@ module _ (x : SumRanges) (b : Bounded x) where
   pub weaker : x.least.strength ≤ strongest
   weaker = le_trans b.ordered.strength weak
 
-  correction-given : correction_of x.least.strength x.most.strength ≡ Between (correction_in x).least (correction_in x).most
+  correction-given : correction_of x.least.strength x.most.strength ≡ between (correction_in x).least (correction_in x).most
   correction-given = bracket-given x.least.strength x.most.strength weaker weak
 
   pub correction-some : 0 < (correction_in x).least
@@ -43,19 +43,29 @@ module _ (x : SumRanges) (b : Bounded x) where
   correction-most = upper-most x.least.strength
 
 -- ---- as the code is handed it: an answer that is a bracket is this one, and there is no other answer
-module _ (x : SumRanges) (b : Bounded x) {given : Correction} (is : given ≡ correction_of x.least.strength x.most.strength) where
-  pub not-strong : given ≡ TooStrong → ⊥
+module _ (x : SumRanges) (b : Bounded x) {given : Option Correction} (is : given ≡ correction_of x.least.strength x.most.strength) where
+  pub not-strong : given ≡ None → ⊥
   not-strong e = let z : ◌≡◌ {A = ℕ} 0 1 = cc (correction-given x b) in absurd (omega arith)
 
-  module _ {least most : ℕ} (e : given ≡ Between least most) where
+  module _ {told : Correction} (e : given ≡ Some told) where
+    abbrev least : ℕ
+    least = told.least
+
+    abbrev most : ℕ
+    most = told.most
+
     least-is : least ≡ (correction_in x).least
     least-is = cc (correction-given x b)
 
     most-is : most ≡ (correction_in x).most
     most-is = cc (correction-given x b)
 
-    pub ends-small : (least ≤ unit + 1) × (most ≤ unit + 1)
-    ends-small = (rw least-is (correction-least x b), rw most-is (correction-most x b))
+    -- there is room for the products by its ends
+    pub least-fits : (least ≤ unit + 1) × (x.least.calculated ≤ most_sums.calculated)
+    least-fits = (rw least-is (correction-least x b), le_trans b.ordered.calculated b.most.calculated)
+
+    pub most-fits : (most ≤ unit + 1) × (x.most.calculated ≤ most_sums.calculated)
+    most-fits = (rw most-is (correction-most x b), b.most.calculated)
 
     -- what was made by one of its ends
     pub least-made : {n : ℕ} → n ≡ to_odd (least * x.least.calculated) → n ≡ to_odd ((correction_in x).least * x.least.calculated)

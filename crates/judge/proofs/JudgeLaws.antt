@@ -9,8 +9,7 @@ use Rattle.refusal.specs.Numbers.{number_of}
 use Rattle.refusal.specs.declared.Refusal.{Refusal}
 use Rattle.reading.specs.declared.Analyte.{Analyte}
 use Rattle.reading.specs.Analytes.{present}
-use Rattle.record.specs.declared.Tested.{Tested}
-use Rattle.record.specs.declared.Tested.TheVariants as tested
+use Rattle.std.specs.Prelude.{Result, Ok, Err}
 use Rattle.record.specs.declared.TestedRecord.{TestedRecord}
 use Rattle.record.specs.Record.{readings, ammonium, sodium, nitrate, chloride, total_nitrogen, organic_carbon, reading_at}
 use Rattle.record.specs.Tested.{analyte_at, fields_in, terms_of, Holds, OwnTests}
@@ -99,7 +98,7 @@ module _ (s : List ℕ) where
       let is' : verdicts_of new ≡ w = cc g'.1 in
       rw (← is, ← is') (survives s new f g.0 g'.0)
 
-  refused-is : {own : TestedRecord} {why : Refusal} → OwnTests s own → own.tested ≡ tested.Refused why → judgement_of s ≡ refused (number_of why)
+  refused-is : {own : TestedRecord} {why : Refusal} → OwnTests s own → own.tested ≡ Err why → judgement_of s ≡ refused (number_of why)
   unfolding judgement_of
   refused-is t e = sym (tested-refused t e (given (verdicts_of s)))
 
@@ -107,10 +106,10 @@ module _ (s : List ℕ) where
   pub by_value : {own : TestedRecord} → OwnTests s own → judged_of (terms_of own) ≡ judgement_of s
   by_value {own} t = go own.tested refl
     where
-      go : (x : Tested) → own.tested ≡ x → judged_of (terms_of own) ≡ judgement_of s
-      go (tested.Accepted floor) e =
+      go : (x : Result ℕ Refusal) → own.tested ≡ x → judged_of (terms_of own) ≡ judgement_of s
+      go (Ok floor) e =
           let w = tested-valid t e in
           let h = tested-holds t e in
           let sums = fields_give s own floor w.0 h w.1 in
           sym (is-judged own e refl) ∙ ap (λ (x : Four). given x) (ap (verdicts_in (fields_in own)) sums ∙ verdicts-are own h) ∙ sym (judged w.0)
-      go (tested.Refused why) e = sym (is-refused own e) ∙ sym (refused-is t e)
+      go (Err why) e = sym (is-refused own e) ∙ sym (refused-is t e)

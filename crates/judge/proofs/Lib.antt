@@ -3,7 +3,6 @@ mod Crossing
 mod Mixing
 mod FactorLaws
 mod Deciding
-mod Picking
 mod Judging
 mod LimitLaws
 mod RoundingLaws
@@ -19,8 +18,6 @@ mod BalanceLaws
 mod ConductivityLaws
 mod RatioLaws
 mod Applying
-mod MatchLaws
-mod CheckWays
 mod TruthProofs
 mod NarrowerLaws
 mod FinerRanges

@@ -1,23 +1,19 @@
 -- The products of the ratios fit 64 bits where those of the greatest sums do; those of all fields do.
-use mathlib.Core.Path.{◌≡◌}
 use Prim.Native.Nat.{ℕ, ◌+◌, ◌*◌, ◌^◌, ◌≤◌, ◌<◌}
 use native.Mathlib.Nat.{le_trans, lt_of_le_of_lt, mul_comm, mul-le-mul}
 use native.Mathlib.Omega.{arith}
 use lib.Dec.{lit<}
 use Rattle.activity.specs.Brackets.{unit}
 use Rattle.solution.specs.Ions.{cation_factor, anion_factor, conductance, sum}
-use Rattle.solution.specs.declared.Solution.{Solution}
-use Rattle.solution.specs.Solutions.{SumRanges, sum_ranges_in}
+use Rattle.solution.specs.Solutions.{SumRanges}
 use Rattle.solution.specs.Steps.{most_sums, Bounded}
-use Rattle.judge.specs.declared.ratio.Fraction.{Fraction}
 use Rattle.judge.specs.declared.window.Window.{Window}
-use Rattle.judge.specs.Corners.{fraction}
 use Rattle.judge.specs.Classes.{percent, percent_of_mean}
 use Rattle.judge.specs.Ranges.{correction_in}
 use Rattle.judge.specs.Steps.{to_odd, Room}
 use Rattle.judge.specs.IonBalance.{balance_limit, balance_window}
 use Rattle.judge.specs.Conductivity.{conductivity_limit, conductivity_window}
-use Rattle.judge.specs.Ratios.{sodium_chloride_window, nitrogen_window}
+use Rattle.judge.specs.Ratios.{sodium_chloride_window}
 use Rattle.judge.proofs.LimitLaws.{balance-most, conductivity-most}
 use Rattle.judge.proofs.RoundingLaws.{rounded, rounded-rises, rounded-near}
 use Rattle.judge.proofs.CorrectionLaws.{correction-ordered, correction-most}
@@ -58,7 +54,7 @@ module _ (n X Y : ℕ) (firsts : n * X < 2 ^ 64) (seconds : n * Y < 2 ^ 64) wher
 
 -- of each check
 module _ (x : SumRanges) (b : Bounded x) where
-  balance-room : (measured : ℕ) → Room (balance_window (balance_limit measured)) x.least.cations x.most.cations x.least.anions x.most.anions
+  pub balance-room : (measured : ℕ) → Room (balance_window (balance_limit measured)) x.least.cations x.most.cations x.least.anions x.most.anions
   unfolding sum cation_factor anion_factor balance_limit
   balance-room measured =
       let small = balance-most measured in
@@ -70,7 +66,7 @@ module _ (x : SumRanges) (b : Bounded x) where
   corrected-most : (correction_in x).most * x.most.calculated ≤ (unit + 1) * most_sums.calculated
   corrected-most = mul-le-mul (correction-most x b) b.most.calculated
 
-  conductivity-room : (measured : ℕ)
+  pub conductivity-room : (measured : ℕ)
       → Room (conductivity_window (conductivity_limit measured)) (to_odd ((correction_in x).least * x.least.calculated)) (to_odd ((correction_in x).most * x.most.calculated)) x.least.measured x.most.measured
   unfolding sum cation_factor anion_factor conductance conductivity_limit
   conductivity-room measured =
@@ -82,35 +78,9 @@ module _ (x : SumRanges) (b : Bounded x) where
       (rounded-rises least most (mul-le-mul (correction-ordered x b) b.ordered.calculated)) (omega (arith, rounded-near most, corrected-most))
       b.ordered.measured b.most.measured
 
-  ratio-room : Room sodium_chloride_window x.least.sodium x.most.sodium x.least.chloride x.most.chloride
+  pub ratio-room : Room sodium_chloride_window x.least.sodium x.most.sodium x.least.chloride x.most.chloride
   unfolding cation_factor anion_factor
   ratio-room =
       room sodium_chloride_window.high.numerator most_sums.sodium most_sums.chloride (lit< tt) (lit< tt)
       (record { low_numerator = omega arith; low_denominator = omega arith; high_numerator = omega arith; high_denominator = omega arith })
       b.ordered.sodium b.most.sodium b.ordered.chloride b.most.chloride
-
-  nitrogen-room : Room nitrogen_window x.least.mineral x.most.mineral x.least.total x.most.total
-  nitrogen-room =
-      room nitrogen_window.high.numerator most_sums.mineral most_sums.total (lit< tt) (lit< tt)
-      (record { low_numerator = omega arith; low_denominator = omega arith; high_numerator = omega arith; high_denominator = omega arith })
-      b.ordered.mineral b.most.mineral b.ordered.total b.most.total
-
--- the same of a window and two ratios, as the code makes them
-module _ (x : Solution) (b : Bounded (sum_ranges_in x)) {w : Window} {least most : Fraction} where
-  pub balance-handed : (measured : ℕ) → w ≡ balance_window (balance_limit measured) → least ≡ fraction x.least.cations.0 x.most.anions.0
-      → most ≡ fraction x.most.cations.0 x.least.anions.0 → Room w least.numerator most.numerator most.denominator least.denominator
-  balance-handed measured e f g = rw (e, f, g) (balance-room (sum_ranges_in x) b measured)
-
-  pub conductivity-handed : (measured : ℕ) {n m : ℕ} → w ≡ conductivity_window (conductivity_limit measured)
-      → n ≡ to_odd ((correction_in (sum_ranges_in x)).least * x.least.calculated.0) → m ≡ to_odd ((correction_in (sum_ranges_in x)).most * x.most.calculated.0)
-      → least ≡ fraction n x.most.measured.0
-      → most ≡ fraction m x.least.measured.0 → Room w least.numerator most.numerator most.denominator least.denominator
-  conductivity-handed measured e n m f g = rw (e, f, g, n, m) (conductivity-room (sum_ranges_in x) b measured)
-
-  pub ratio-handed : w ≡ sodium_chloride_window → least ≡ fraction x.least.ratio.sodium.0 x.most.ratio.chloride.0
-      → most ≡ fraction x.most.ratio.sodium.0 x.least.ratio.chloride.0 → Room w least.numerator most.numerator most.denominator least.denominator
-  ratio-handed e f g = rw (e, f, g) (ratio-room (sum_ranges_in x) b)
-
-  pub nitrogen-handed : w ≡ nitrogen_window → least ≡ fraction x.least.nitrogen.mineral.0 x.most.nitrogen.total.0
-      → most ≡ fraction x.most.nitrogen.mineral.0 x.least.nitrogen.total.0 → Room w least.numerator most.numerator most.denominator least.denominator
-  nitrogen-handed e f g = rw (e, f, g) (nitrogen-room (sum_ranges_in x) b)

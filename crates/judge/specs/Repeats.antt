@@ -1,13 +1,11 @@
 -- Document 01, 'The docket': what a docket asks of the judge beside the verdicts of a record. What these questions need of a
 -- record and of two that agree is passed on, so that the crate above names no other than this one.
-use Rattle.std.specs.Prelude.{Bool, cond, List, ℕ}
-use Rattle.refusal.specs.Outcome.{Outcome}
+use Rattle.std.specs.Prelude.{Bool, cond, List, ℕ, Result}
+use Rattle.refusal.specs.declared.Refusal.{Refusal}
+use Rattle.refusal.specs.Outcome.{Outcome, outcome_by}
 use Rattle.refusal.specs.Outcome.Outcome.{given, refused}
-use Rattle.refusal.specs.Numbers.{number_of}
 use Rattle.record.specs.Record.{accepted}
 use Rattle.agreement.specs.Agreement.{agreement_of}
-use Rattle.judge.specs.declared.Acceptance.{Acceptance}
-use Rattle.judge.specs.declared.Acceptance.TheVariants as acceptance
 use Rattle.judge.specs.declared.Comparison.{Comparison}
 use Rattle.judge.specs.declared.Comparison.TheVariants as comparison
 pub use Rattle.record.specs.Record.{record_words}
@@ -15,10 +13,6 @@ unfoldable pub use Rattle.record.specs.Record.{same_sample_of}
 unfoldable pub use Rattle.agreement.specs.Agreement.{agrees}
 
 -- 'the record's own tests' alone: nothing is told but that they accept it, or the number of the first that refuses it
-abbrev pub acceptance_outcome : Acceptance → Outcome (Unit {0})
-acceptance_outcome acceptance.Accepted = given tt
-acceptance_outcome (acceptance.Refused why) = refused (number_of why)
-
 unfoldable pub acceptance_of : List ℕ → Outcome (Unit {0})
 acceptance_of s = accepted s (given tt)
 
@@ -28,11 +22,13 @@ pub data Compared : Type 0 where
   differing : Compared
   agreeing : Compared
 
-abbrev pub comparison_outcome : Comparison → Outcome Compared
-comparison_outcome comparison.Agree = given agreeing
-comparison_outcome comparison.Differ = given differing
-comparison_outcome comparison.OtherSample = given other_sample
-comparison_outcome (comparison.Refused why) = refused (number_of why)
+abbrev pub compared_in : Comparison → Compared
+compared_in comparison.Agree = agreeing
+compared_in comparison.Differ = differing
+compared_in comparison.OtherSample = other_sample
+
+abbrev pub comparison_outcome : Result Comparison Refusal → Outcome Compared
+comparison_outcome = outcome_by compared_in
 
 -- by whether they agree, or why that is not told, and whether they are of one sample
 abbrev pub compared_by : Outcome Bool → Bool → Outcome Compared

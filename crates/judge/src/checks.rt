@@ -14,11 +14,11 @@ pub fn verdicts(own: TestedRecord, floor: u64) -> Verdicts
     ensures { numbers_of result ≡ verdicts_in (fields_in own) (sum_ranges_by (fields_in own) floor) }
 {
     let solution = solution::of_fields(own, floor);
-    let analytes = own.analytes;
-    let balance = balance_check::of_record(own.kind, analytes, own.conductivity, solution);
+    // Each check takes what its definition takes, and no more.
+    let balance = balance_check::of_record(own.kind, own.analytes, own.conductivity, solution);
     let conductivity = conductivity_check::of_record(own.conductivity, solution);
-    let ratio = ratio_check::of_record(own.kind, analytes, solution);
-    let nitrogen = nitrogen_check::of_record(analytes, solution);
+    let ratio = ratio_check::of_record(own.kind, own.analytes, solution);
+    let nitrogen = nitrogen_check::of_record(own.analytes, solution);
     Verdicts {
         balance,
         conductivity,

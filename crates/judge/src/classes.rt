@@ -1,6 +1,7 @@
 // The kinds and the classes of measured conductivity that the checks go by, and what a difference is taken in percent of.
 
 // Kinds that a check names, in document 01's order: open field samples, the last of those with a sodium/chloride ratio, and runoff.
+// Numbers and no enum: a tested record promises its kind as the number that its word is.
 pub const WET_ONLY: u32 = 1;
 
 pub const BULK: u32 = 2;

@@ -6,21 +6,24 @@ ghost use Rattle.judge.specs.Passing.{is_passed, all_passed};
 
 use crate::{Verdict, Verdicts};
 
-impl Verdicts {
-    // Whether every check is 0 or 1.
-    pub fn all_passed(self) -> bool
-        ensures { result ≡ all_passed (numbers_of self) }
+impl Verdict {
+    fn is_passed(self) -> bool
+        ensures { result ≡ is_passed (verdict_number self) }
     {
-        let balance = self.balance;
-        let conductivity = self.conductivity;
-        let ratio = self.ratio;
-        let nitrogen = self.nitrogen;
-        is_passed(balance) & (is_passed(conductivity) & (is_passed(ratio) & is_passed(nitrogen)))
+        matches!(self, Verdict::NotApplicable | Verdict::Within)
     }
 }
 
-fn is_passed(verdict: Verdict) -> bool
-    ensures { result ≡ is_passed (verdict_number verdict) }
-{
-    verdict.number() <= 1
+impl Verdicts {
+    // Whether every check is 0 or 1.
+    #[tactic(auto, unfolding(crate::specs::Passing::all_passed))]
+    // By name and no array of four: a line for each check.
+    pub fn all_passed(self) -> bool
+        ensures { result ≡ all_passed (numbers_of self) }
+    {
+        self.balance.is_passed()
+            && self.conductivity.is_passed()
+            && self.ratio.is_passed()
+            && self.nitrogen.is_passed()
+    }
 }

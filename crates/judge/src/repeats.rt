@@ -1,26 +1,21 @@
 // How a repeat compares with the record before it, for a docket.
 ghost use Rattle.std.specs.Prelude.{◌≡◌};
-ghost use Rattle.agreement.specs.Agreement.{agreement_outcome};
+ghost use Rattle.refusal.specs.Outcome.{outcome_of};
 ghost use Rattle.judge.specs.Repeats.{comparison_outcome, compared_by};
 
 use crate::Comparison;
-use agreement::Agreement;
+use refusal::Refusal;
 
-// By whether the two agree, and whether they are of one sample.
-pub fn comparison(agreement: Agreement, same: bool) -> Comparison
-    ensures { comparison_outcome result ≡ compared_by (agreement_outcome agreement) same }
+// By whether the two agree, or why that is not told, and whether they are of one sample.
+pub fn comparison(agree: Result<bool, Refusal>, same: bool) -> Result<Comparison, Refusal>
+    ensures { comparison_outcome result ≡ compared_by (outcome_of agree) same }
 {
-    match agreement {
-        Agreement::Agree => if same {
-            Comparison::Agree
-        } else {
-            Comparison::OtherSample
-        },
-        Agreement::Differ => if same {
-            Comparison::Differ
-        } else {
-            Comparison::OtherSample
-        },
-        Agreement::Refused(why) => Comparison::Refused(why),
-    }
+    let agree = agree?;
+    Ok(if !same {
+        Comparison::OtherSample
+    } else if agree {
+        Comparison::Agree
+    } else {
+        Comparison::Differ
+    })
 }

@@ -1,16 +1,16 @@
--- Numbers in base ten: the last digit apart from the others, how many digits there are, and that the text says the number.
-use mathlib.Core.Path.{◌≡◌, refl, sym, ap, ◌∙◌}
+-- Numbers in base ten: that they are written as the library prints them, how many digits there are, and that the text says the number.
+use mathlib.Core.Path.{◌≡◌, refl, sym, ◌∙◌}
 use mathlib.Core.List.{List, [], ◌∷◌, ◌++◌}
 use Prim.Native.Nat.{ℕ, zero, suc, ◌+◌, ◌-◌, ◌*◌, ◌/◌, ◌%◌, ◌^◌, ◌≤◌, ◌<◌}
 use native.Mathlib.Decide.{dec_lt}
 use native.Mathlib.Nat.{pow-suc}
 use native.Mathlib.Omega.{arith}
 use borrow.Author.Tests.{lt-ltb, le-ltb}
-use lib.ListN.{length, get_or, set, length-append, get_or-append}
+use lib.ListN.{length, get_or, length-append, get_or-append}
 use lib.Seq.{get_or-append_seam}
+use Rattle.std.specs.Fmt as printed
+use Rattle.std.proofs.lemmas.Fmt.{decimal_from_appends_wide, length-decimal-le_wide, decimal_by_steps_wide}
 use Rattle.listing.specs.Decimal.{code_of_zero, digit, decimal_from, most_digits, decimal, read_from, Spelled, DecimalTruth}
-use Rattle.refusal.specs.Lent.{placed}
-use Rattle.refusal.proofs.PlaceLaws.{placed_one, placed-last}
 
 -- one digit, or the last after the others
 pub one-digit : (k n : ℕ) → n < 10 → decimal_from (suc k) n ≡ digit n ∷ []
@@ -21,59 +21,14 @@ more-digits : (k n : ℕ) → 10 ≤ n → decimal_from (suc k) n ≡ decimal_fr
 unfolding decimal_from
 more-digits k n h = simp (le-ltb n 10 h)
 
--- a number of at most so many digits: one place more adds nothing
-enough : (k n : ℕ) → n < 10 ^ suc k → Dec (n < 10) → decimal_from (suc (suc k)) n ≡ decimal_from (suc k) n
-enough zero n h d = one-digit 1 n h ∙ sym (one-digit 0 n h)
-enough (suc k) n h (yes l) = one-digit (suc (suc k)) n l ∙ sym (one-digit (suc k) n l)
-enough (suc k) n h (no l) =
-    let ten : 10 ≤ n = omega arith in
-    let fewer : n / 10 < 10 ^ suc k = omega (arith, pow-suc 10 (suc k)) in
-    more-digits (suc (suc k)) n ten
-    ∙ ap (λ (s : List ℕ). s ++ (digit (n % 10) ∷ [])) (enough k (n / 10) fewer (dec_lt (n / 10) 10))
-    ∙ sym (more-digits (suc k) n ten)
-
--- how many digits may stand before the last
-abbrev others : ℕ
-others = most_digits - 1
-
--- the number as it is written: its one digit, or its last digit after the number of the others
-pub decimal-one : (n : ℕ) → n < 10 → decimal n ≡ digit n ∷ []
+-- a number of at most so many digits is written as the library prints it
+pub decimal-printed : (n : ℕ) → n < 10 ^ most_digits → printed.decimal n ≡ decimal n
 unfolding decimal
-decimal-one n h = one-digit others n h
+decimal-printed n h =
+    let small : n < 10 ^ 64 = omega (arith, h) in
+    sym (decimal_from_appends_wide decimal_from (record { one = one-digit; more = more-digits }) most_digits n small (length-decimal-le_wide most_digits n (omega arith) h small))
 
-pub decimal-more : (n : ℕ) → 10 ≤ n → n < 10 ^ most_digits → decimal n ≡ decimal (n / 10) ++ (digit (n % 10) ∷ [])
-unfolding decimal
-decimal-more n h l =
-    more-digits others n h
-    ∙ ap (λ (s : List ℕ). s ++ (digit (n % 10) ∷ [])) (sym (enough (others - 1) (n / 10) (omega arith) (dec_lt (n / 10) 10)))
-
--- how many digits
-pub length-one : (n : ℕ) → n < 10 → length (decimal n) ≡ 1
-length-one n h = ap length (decimal-one n h)
-
-pub length_more : (n : ℕ) → 10 ≤ n → n < 10 ^ most_digits → length (decimal n) ≡ length (decimal (n / 10)) + 1
-length_more n h l = ap length (decimal-more n h l) ∙ length-append (decimal (n / 10)) (digit (n % 10) ∷ [])
-
--- the last digit stored, and the number of the others to be written before it
-pub put_last : (text : List ℕ) (at last n code : ℕ) → 10 ≤ n → n < 10 ^ most_digits → last + 1 ≡ at + length (decimal n) → last < length text
-    → code ≡ digit (n % 10) → placed (set text last code) at (decimal (n / 10)) ≡ placed text at (decimal n)
-put_last text at last n code h l e r is =
-    let ends : last ≡ at + length (decimal (n / 10)) = omega (arith, length_more n h l) in
-    placed-last text at (decimal (n / 10)) code last ends r
-    ∙ ap (λ (s : List ℕ). placed text at s) (ap (λ (x : ℕ). decimal (n / 10) ++ (x ∷ [])) is ∙ sym (decimal-more n h l))
-
--- the one digit that is left, stored
-pub put_first : (text : List ℕ) (at last n code : ℕ) → n < 10 → last + 1 ≡ at + length (decimal n) → last < length text → code ≡ digit n
-    → set text last code ≡ placed text at (decimal n)
-put_first text at last n code h e r is =
-    let begins : last ≡ at = omega (arith, length-one n h) in
-    rw (begins, is, decimal-one n h) (placed_one text at (digit n) (omega arith))
-
--- at least one, and at most as many as the bound of the number has
-some-digits : (k n : ℕ) → Dec (n < 10) → 0 < length (decimal_from (suc k) n)
-some-digits k n (yes l) = rw (one-digit k n l) (omega arith)
-some-digits k n (no l) = rw (more-digits k n (omega arith)) (omega (arith, length-append (decimal_from k (n / 10)) (digit (n % 10) ∷ [])))
-
+-- as many digits at most as the bound of the number has
 at_most : (k j n : ℕ) → n < 10 ^ suc j → Dec (n < 10) → length (decimal_from k n) ≤ suc j
 unfolding decimal_from
 at_most zero j n h d = omega arith
@@ -91,10 +46,6 @@ few (suc k) n (yes l) = rw (one-digit k n l) (omega arith)
 few (suc k) n (no l) =
     rw (more-digits k n (omega arith))
     (omega (arith, length-append (decimal_from k (n / 10)) (digit (n % 10) ∷ []), few k (n / 10) (dec_lt (n / 10) 10)))
-
-pub decimal-some : (n : ℕ) → 0 < length (decimal n)
-unfolding decimal
-decimal-some n = some-digits others n (dec_lt n 10)
 
 pub decimal-within : (digits n : ℕ) → 1 ≤ digits → n < 10 ^ digits → length (decimal n) ≤ digits
 unfolding decimal
@@ -145,14 +96,5 @@ spelled-one n h = record {
   front = λ l. absurd (omega arith);
 }
 
-spelled : (k n : ℕ) → n < 10 ^ suc k → Dec (n < 10) → Spelled n (decimal_from (suc k) n)
-spelled zero n h d = rw (one-digit zero n h) (spelled-one n h)
-spelled (suc k) n h (yes l) = rw (one-digit (suc k) n l) (spelled-one n l)
-spelled (suc k) n h (no l) =
-    let ten : 10 ≤ n = omega arith in
-    let fewer : n / 10 < 10 ^ suc k = omega (arith, pow-suc 10 (suc k)) in
-    rw (more-digits (suc k) n ten) (spelled-more n (decimal_from (suc k) (n / 10)) ten (spelled k (n / 10) fewer (dec_lt (n / 10) 10)))
-
 pub decimal-truth : DecimalTruth
-unfolding decimal
-decimal-truth n h = spelled others n h (dec_lt n 10)
+decimal-truth n h = rw (← decimal-printed n h) (decimal_by_steps_wide Spelled spelled-one spelled-more n (omega (arith, h)))

@@ -1,82 +1,111 @@
--- A row's fields by its words. Lines from the front: the next field of a row, the next row of many; and rows that other words stand
--- behind.
+-- Lines from the front: the next field of a line, the next row of many, what a text begins with; and a row's fields by its words.
 use mathlib.Core.Path.{◌≡◌, refl, sym, ap, ◌∙◌}
-use mathlib.Core.List.{List, [], ◌∷◌, ◌++◌}
-use Prim.Native.Nat.{ℕ, zero, suc, ◌+◌, ◌-◌, ◌*◌, ◌≤◌, ◌<◌}
+use mathlib.Core.List.{List, [], ◌∷◌, ◌++◌, append-nil}
+use Prim.Native.Nat.{ℕ, zero, suc, ◌+◌, ◌-◌, ◌*◌, ◌/◌, ◌≤◌, ◌<◌}
+use native.Mathlib.Nat.{mul-zero, mul-suc}
 use native.Mathlib.Numerals.{add-one}
 use native.Mathlib.Omega.{arith}
-use lib.ListN.{length, get_or, drop, length-take, length-drop, drop_of_length-le}
-use lib.Seq.{get_or-take, get_or-drop, drop-cons, drop-drop, append_snoc, take-append-le, drop-append-le}
+use lib.ListN.{length, get_or, take, drop, length-drop, drop_of_length-le}
+use lib.Seq.{drop-cons, drop-drop, append_snoc}
+use Rattle.std.specs.Simd.{first_chunks}
 use Rattle.record.specs.Number.{whole_number}
-use Rattle.batch.specs.Rows.{number_width, row_widths, row_words, row_at, row_fields}
-use Rattle.batch.proofs.Laws.{fields-count}
+use Rattle.batch.specs.Rows.{row_words, row_at, row_fields}
 use Rattle.listing.specs.Decimal.{decimal}
-use Rattle.listing.specs.Listing.{ending, line, row_line, row_lines, listing_text}
-use Rattle.listing.proofs.PartLaws.{Begins}
+use Rattle.listing.specs.Listing.{ending, line, row_line, row_lines, listing_text, refused_word, refused_text}
+use Rattle.listing.proofs.PartLaws.{rest_of, rest-is, Begins}
 
--- the next of so many fields, with what ends it, and the rest of the line
-line-next : (fields : List ℕ) (size i : ℕ) → length fields ≡ size → i < size
-    → line (drop i fields) ≡ (decimal (get_or fields i 0) ++ (ending (size - 1 - i) ∷ [])) ++ line (drop (i + 1) fields)
+-- the next field of a line, with what ends it, and the rest of the line
+pub line-next : (fields : List ℕ) (i : ℕ) → i < length fields
+    → Begins (line (drop i fields)) (decimal (get_or fields i 0) ++ (ending (length fields - 1 - i) ∷ [])) (line (drop (i + 1) fields))
 unfolding line
-line-next fields size i e h =
-    let after : length (drop (suc i) fields) ≡ size - 1 - i = omega (arith, length-drop (suc i) fields) in
-    rw (add-one i, drop-cons fields i 0 (omega arith), after)
-    (sym (append_snoc (decimal (get_or fields i 0)) (ending (size - 1 - i)) (line (drop (suc i) fields))))
+line-next fields i h =
+    let after : length (drop (suc i) fields) ≡ length fields - 1 - i = omega (arith, length-drop (suc i) fields) in
+    record {
+      with = rw (add-one i, drop-cons fields i 0 h, after) (sym (append_snoc (decimal (get_or fields i 0)) (ending (length fields - 1 - i)) (line (drop (suc i) fields))));
+    }
+
+pub line_ends : (fields : List ℕ) (i : ℕ) → length fields ≤ i → line (drop i fields) ≡ []
+unfolding line
+line_ends fields i h = rw (drop_of_length-le fields {i = i} h)
+
+-- a text that is one line, by its one field as the code has it
+pub line_alone : {m n : ℕ} → m ≡ n → Begins (line (n ∷ [])) (line (m ∷ [])) []
+line_alone {m} {n} e = record { with = rw e (sym (append-nil (line (n ∷ [])))) }
+
+-- the text of a refusal: the word, then the line of the number
+pub refused-first : (n : ℕ) → Begins (refused_text n) refused_word (line (n ∷ []))
+unfolding refused_text
+refused-first n = record { with = refl }
 
 -- the fields of a row, by its words
-module _ (words : List ℕ) (from : ℕ) where
-  word-at : (k at : ℕ) → k < row_words → at ≡ from + k → get_or (row_at words from) k 0 ≡ get_or words at 0
-  word-at k at h e = get_or-take row_words (drop from words) k 0 h ∙ get_or-drop from words k 0 ∙ ap (λ (n : ℕ). get_or words n 0) (sym e)
-
-  pub number-field : {i : ℕ} → i ≡ 0 → get_or (row_fields (row_at words from)) i 0 ≡ whole_number (get_or words from 0) (get_or words (from + 1) 0)
-  unfolding row_fields
-  number-field e = rw (e, word-at 0 from (omega arith) (omega arith), word-at 1 (from + 1) (omega arith) refl)
-
-  pub later-field : (i : ℕ) → (i ≡ 0 → ⊥) → i < length row_widths
-      → get_or (row_fields (row_at words from)) i 0 ≡ get_or words (from + number_width.words + (i - 1)) 0
-  unfolding row_fields
-  later-field zero some h = absurd (some refl)
-  later-field (suc i) some h = get_or-drop number_width.words (row_at words from) i 0 ∙ word-at (number_width.words + i) _ (omega arith) (omega arith)
-
--- the fields of a row that is whole
-module _ (words : List ℕ) (from : ℕ) (whole : from + row_words ≤ length words) where
-  abbrev fields : List ℕ
-  fields = row_fields (row_at words from)
-
-  count : length fields ≡ length row_widths
-  count = fields-count (row_at words from) (omega (arith, length-take row_words (drop from words), length-drop from words))
-
-  -- the next, as the code has it
-  pub row_next : {n : ℕ} (i : ℕ) → i < length row_widths → n ≡ get_or fields i 0
-      → Begins (line (drop i fields)) (decimal n ++ (ending (length row_widths - 1 - i) ∷ [])) (line (drop (i + 1) fields))
-  row_next i h is = record { with = rw is (line-next fields (length row_widths) i count h) }
-
-  pub row_ends : (i : ℕ) → length row_widths ≤ i → line (drop i fields) ≡ []
-  unfolding line
-  row_ends i h = rw (drop_of_length-le fields {i = i} (omega (arith, count)))
+pub row-fields : (row : List ℕ) → length row ≡ row_words
+    → row_fields row
+    ≡ whole_number (get_or row 0 0) (get_or row 1 0) ∷ get_or row 2 0 ∷ get_or row 3 0 ∷ get_or row 4 0 ∷ get_or row 5 0 ∷ get_or row 6 0 ∷ []
+unfolding row_fields
+row-fields row e =
+    rw (
+      drop-cons row 2 0 (omega (arith, e)),
+      drop-cons row 3 0 (omega (arith, e)),
+      drop-cons row 4 0 (omega (arith, e)),
+      drop-cons row 5 0 (omega (arith, e)),
+      drop-cons row 6 0 (omega (arith, e)),
+      drop_of_length-le row {i = 7} (omega (arith, e)),
+    )
+    refl
 
 -- a row and those after it
-pub rows_next : (words : List ℕ) (from left : ℕ) → 0 < left
-    → Begins (row_lines left (drop from words)) (row_line (row_at words from)) (row_lines (left - 1) (drop (from + row_words) words))
+rows_next : (words : List ℕ) (from left : ℕ) → 0 < left
+    → row_lines left (drop from words) ≡ row_line (row_at words from) ++ row_lines (left - 1) (drop (from + row_words) words)
 unfolding row_lines
 rows_next words from zero h = absurd (omega arith)
 rows_next words from (suc left) h =
     let fewer : suc left - 1 ≡ left = omega arith in
-    record { with = rw (fewer, drop-drop row_words from words) }
+    rw (fewer, drop-drop row_words from words)
 
-pub rows_none : (words : List ℕ) → row_lines 0 words ≡ []
-unfolding row_lines
-rows_none words = refl
+-- one of the first chunks of a list
+chunk-at : (n k i : ℕ) (words : List ℕ) → i < k → get_or (first_chunks n k words) i [] ≡ take n (drop (n * i) words)
+chunk-at n zero i words h = absurd (omega arith)
+chunk-at n (suc k) zero words h = rw (mul-zero n)
+chunk-at n (suc k) (suc i) words h =
+    let place : n + n * i ≡ n * suc i = omega (arith, mul-suc n i) in
+    chunk-at n k i (drop n words) (omega (arith, h)) ∙ ap (take n) (drop-drop (n * i) n words ∙ ap (λ (p : ℕ). drop p words) place)
 
--- what stands behind the rows changes nothing
-rows-front : (n : ℕ) (words more : List ℕ) → row_words * n ≤ length words → row_lines n (words ++ more) ≡ row_lines n words
-unfolding row_lines
-rows-front zero words more h = refl
-rows-front (suc n) words more h =
-    let row : row_words ≤ length words = omega arith in
-    rw (take-append-le row_words words more row, drop-append-le row_words words more row, rows-front n (drop row_words words) more (omega (arith, length-drop row_words words)))
+-- of the words of an answer: the line of the count comes first, then that of each row
+module _ (answer : List ℕ) where
+  abbrev count : ℕ
+  count = get_or answer 0 0
 
-pub listing-front : (words more : List ℕ) → length words ≡ 1 + row_words * get_or words 0 0 → listing_text (words ++ more) ≡ listing_text words
-unfolding listing_text
-listing-front [] more h = absurd (omega arith)
-listing-front (count ∷ rows) more h = rw (rows-front count rows more (omega arith))
+  -- the lines of the rows after the first i
+  abbrev pub lines_after : ℕ → List ℕ
+  lines_after i = row_lines (count - i) (drop (1 + row_words * i) answer)
+
+  pub count-first : {n : ℕ} → n ≡ count → Begins (listing_text answer) (line (n ∷ [])) (lines_after 0)
+  unfolding listing_text
+  count-first e =
+      let all : count - 0 ≡ count = omega arith in
+      record { with = rw e (ap (λ (n : ℕ). line (count ∷ []) ++ row_lines n (drop 1 answer)) (sym all)) }
+
+  -- how many rows there are, as the code counts them
+  module _ (size : length answer ≡ 1 + row_words * count) where
+    pub rows-count : length (rest_of answer 1) / row_words ≡ count
+    rows-count = rw (rest-is answer 1) (omega (arith, size, length-drop 1 answer))
+
+    -- the next, as the code has it
+    pub row-next : (i : ℕ) {rows : List (List ℕ)} {fields : List ℕ} → rows ≡ first_chunks row_words (length (rest_of answer 1) / row_words) (rest_of answer 1)
+        → fields ≡ row_fields (get_or rows i []) → i < count → Begins (lines_after i) (line fields) (lines_after (i + 1))
+    unfolding row_line
+    row-next i e is h =
+        let from : ℕ = 1 + row_words * i in
+        let some : i < length (rest_of answer 1) / row_words = omega (arith, h, rows-count) in
+        let row : get_or (first_chunks row_words (length (rest_of answer 1) / row_words) (rest_of answer 1)) i [] ≡ row_at answer from =
+        chunk-at row_words (length (rest_of answer 1) / row_words) i (rest_of answer 1) some
+        ∙ ap (λ (w : List ℕ). take row_words (drop (row_words * i) w)) (rest-is answer 1)
+        ∙ ap (take row_words) (drop-drop (row_words * i) 1 answer)
+        in
+        let fewer : count - i - 1 ≡ count - (i + 1) = omega arith in
+        let place : from + row_words ≡ 1 + row_words * (i + 1) = omega arith in
+        record { with = rw (is, e, row, ← fewer, ← place) (rows_next answer from (count - i) (omega (arith, h))) }
+
+  pub rows_end : (i : ℕ) → count ≤ i → lines_after i ≡ []
+  unfolding row_lines
+  rows_end i h = let none : count - i ≡ 0 = omega (arith, h) in rw none

@@ -2,7 +2,7 @@
 use mathlib.Core.Bool.{true, false}
 use mathlib.Core.Path.{◌≡◌, ap, ◌∙◌}
 use mathlib.Core.List.{List, ◌++◌}
-use Prim.Native.Nat.{ℕ, ◌-◌, ◌≤◌}
+use Prim.Native.Nat.{ℕ, ◌≤◌}
 use native.Mathlib.Omega.{arith}
 use lib.ListN.{length, take, drop, length-append}
 use lib.Seq.{take_at}
@@ -31,5 +31,5 @@ module _ (b : List ℕ) where
   text-written {s} old e l t = rw e (l, (t, (omega (arith, ap length t, length-append s (drop (length s) old)), text-fits)))
 
 -- a text made apart, lent from its start
-pub text-made : (s old : List ℕ) {made : List ℕ} {k : ℕ} → k ≡ length s → made ≡ s ++ drop (length s) old → take (k - 0) made ≡ s
-text-made s old {made} {k} e m = ap (take (k - 0)) m ∙ take_at s (drop (length s) old) (k - 0) (omega arith)
+pub text-made : (s old : List ℕ) {made : List ℕ} {k : ℕ} → k ≡ length s → made ≡ s ++ drop (length s) old → take k made ≡ s
+text-made s old {made} {k} e m = ap (take k) m ∙ take_at s (drop (length s) old) k (omega arith)

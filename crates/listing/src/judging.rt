@@ -6,11 +6,9 @@ ghost use Rattle.batch.specs.Rows.{batch_answer};
 ghost use Rattle.words.specs.Words.{words_of};
 ghost use Rattle.batch.specs.Input.{most_bytes};
 ghost use Rattle.listing.specs.Listing.{text_of, most_text};
-ghost use Rattle.listing.specs.Steps.{answer_in, Answered};
 
 use crate::lines;
 use batch::input::MOST_WORDS;
-use refusal::Written;
 
 // The text of a batch lent as bytes.
 pub fn put_text(text: &mut [u8], bytes: &[u8]) -> usize
@@ -19,6 +17,7 @@ pub fn put_text(text: &mut [u8], bytes: &[u8]) -> usize
     ensures value { result ≡ length (text_of (batch_answer (words_of bytes.now))) }
     ensures text_after { text.new ≡ lent_after (given (text_of (batch_answer (words_of bytes.now)))) text.old }
 {
+    // No heap: room for the longest batch, of which a slice goes on.
     let mut words = [0u32; MOST_WORDS];
     let count = words::unpack(bytes, &mut words);
     put_judged(text, &words[0..count])
@@ -32,19 +31,9 @@ fn put_judged(text: &mut [u8], words: &[u32]) -> usize
 {
     // As long as the longest answer, so that none is refused for want of room.
     let mut answer = [0u32; batch::MOST_ANSWER];
-    let written = batch::judge_batch(words, &mut answer);
-    put_answer(text, &answer, written)
-}
-
-// The text of an answer that was written to the start of a slice.
-fn put_answer(text: &mut [u8], answer: &[u32], written: Written) -> usize
-    requires room { most_text ≤ length text.old }
-    requires answered { Answered written answer.now }
-    ensures value { result ≡ length (text_of (answer_in written answer.now)) }
-    ensures text_after { text.new ≡ lent_after (given (text_of (answer_in written answer.now))) text.old }
-{
-    match written {
-        Written::Length(_) => lines::put_listing(text, answer),
-        Written::Refused(why) => lines::put_refusal(text, why),
+    // By `match`: a refusal is a text of its own, and nothing is passed on.
+    match batch::judge_batch(words, &mut answer) {
+        Ok(size) => lines::put_listing(text, &answer[..size]),
+        Err(why) => lines::put_refusal(text, why),
     }
 }

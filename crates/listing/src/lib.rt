@@ -2,20 +2,21 @@
 // judged, and its answer becomes lines.
 #![tactic(auto)]
 
+mod bytes;
 mod decimal;
 mod judging;
-mod lending;
 mod lines;
 
 ghost use Rattle.std.specs.Prelude.{◌≡◌, ◌≤◌, length};
+ghost use Rattle.refusal.specs.Outcome.{outcome_of};
 ghost use Rattle.refusal.specs.Outcome.Outcome.{given};
-ghost use Rattle.refusal.specs.Lent.{fitting, length_of, lent_after, written_outcome};
+ghost use Rattle.refusal.specs.Lent.{fitting, length_of, lent_after};
 ghost use Rattle.batch.specs.Input.{ByteLimit};
 ghost use Rattle.listing.specs.Decimal.{DecimalTruth};
 ghost use Rattle.listing.specs.Listing.{list_text, TextFits};
 
 use batch::{MOST_SAMPLES, input, widths};
-use refusal::{Refusal, Written};
+use refusal::{Refusal, lent};
 
 // The digits of the greatest count of samples.
 const COUNT_DIGITS: usize = 3;
@@ -47,8 +48,8 @@ pub fn text_of(bytes: &[u8], text: &mut [u8; MOST_TEXT]) -> usize
 // Writes the text of a batch, lent as bytes, to the start of any lent text. Where that is shorter, it is refused and left as
 // it was: the text is made apart, and copied once nothing can be refused any more. The last three promises are that no text
 // is longer than the longest, that digits say their number, and that the limit on bytes is document 02's.
-pub fn list(bytes: &[u8], text: &mut [u8]) -> Written
-    ensures answer { written_outcome result ≡ length_of (fitting (length text.old) (given (list_text bytes.now))) }
+pub fn list(bytes: &[u8], text: &mut [u8]) -> Result<usize, Refusal>
+    ensures answer { outcome_of result ≡ length_of (fitting (length text.old) (given (list_text bytes.now))) }
     ensures lent { text.new ≡ lent_after (fitting (length text.old) (given (list_text bytes.now))) text.old }
     ensures fits { TextFits }
     ensures decimals { DecimalTruth }
@@ -56,5 +57,5 @@ pub fn list(bytes: &[u8], text: &mut [u8]) -> Written
 {
     let mut made = [0u8; MOST_TEXT];
     let length = text_of(bytes, &mut made);
-    lending::lend(&made[0..length], text)
+    lent::lend(&made[..length], text)
 }

@@ -1,38 +1,32 @@
-// Lines of text: each `put` writes at a place, or at the start, and answers the place after what it wrote.
-ghost use Rattle.std.specs.Prelude.{◌++◌, ◌∷◌, [], ◌≡◌, ◌+◌, ◌*◌, ◌≤◌, ◌<◌, length, get_or};
+// Lines of text: each `put` writes to the start of a text, and answers how many bytes it wrote.
+ghost use Rattle.std.specs.Prelude.{◌++◌, ◌∷◌, [], ◌≡◌, ◌+◌, ◌*◌, ◌≤◌, length, get_or, drop};
 ghost use Rattle.refusal.specs.Numbers.{number_of};
 ghost use Rattle.refusal.specs.Outcome.Outcome.{given};
-ghost use Rattle.refusal.specs.Lent.{lent_after, placed};
-ghost use Rattle.batch.specs.Rows.{row_widths, row_words, row_at, row_fields};
+ghost use Rattle.refusal.specs.Lent.{lent_after};
+ghost use Rattle.batch.specs.Rows.{row_words, row_fields};
 ghost use Rattle.listing.specs.Decimal.{decimal};
-ghost use Rattle.listing.specs.Listing.{ending, row_line, listing_text, refused_text};
+ghost use Rattle.listing.specs.Listing.{ending, line, listing_text, refused_text};
 
-use crate::{decimal, lending};
+use crate::{bytes, decimal};
 use batch::ROW_WORDS;
-use batch::widths::{NUMBER_WORDS, ROW_FIELDS};
+use batch::widths::ROW_FIELDS;
 use record::number;
 use refusal::Refusal;
 
-// The place of a row's last field.
-const LAST: usize = ROW_FIELDS - 1;
-
-// The text of a batch's answer, which stands at the start of `words`: the count on the first line, then a row a line.
-pub fn put_listing(text: &mut [u8], words: &[u32]) -> usize
-    requires rows_there { 1 + row_words * get_or words.now 0 0 ≤ length words.now }
-    requires room { length (listing_text words.now) ≤ length text.old }
-    ensures value { result ≡ length (listing_text words.now) }
-    ensures text_after { text.new ≡ lent_after (given (listing_text words.now)) text.old }
+// The text of a batch's answer: the count on the first line, then a row a line.
+// Each `put` promises the pair: the text is its caller's, and no value goes out that could carry it.
+pub fn put_listing(text: &mut [u8], answer: &[u32]) -> usize
+    requires rows_there { length answer.now ≡ 1 + row_words * get_or answer.now 0 0 }
+    requires room { length (listing_text answer.now) ≤ length text.old }
+    ensures value { result ≡ length (listing_text answer.now) }
+    ensures text_after { text.new ≡ lent_after (given (listing_text answer.now)) text.old }
 {
-    let count = words[0];
-    let mut next = put_field(text, 0, count as u64, 0);
-    let mut from: usize = 1;
-    let mut left = count;
-    while 0 < left {
-        next = put_row(text, next, words, from);
-        from += ROW_WORDS;
-        left -= 1;
+    let mut size = put_line(text, &[u64::from(answer[0])]);
+    let (rows, _) = answer[1..].as_chunks::<ROW_WORDS>();
+    for row in rows {
+        size += put_line(&mut text[size..], &fields(row));
     }
-    next
+    size
 }
 
 // The text of a refusal.
@@ -41,49 +35,49 @@ pub fn put_refusal(text: &mut [u8], why: Refusal) -> usize
     ensures value { result ≡ length (refused_text (number_of why)) }
     ensures text_after { text.new ≡ lent_after (given (refused_text (number_of why))) text.old }
 {
-    let next = lending::copy(b"refused ", text);
-    put_field(text, next, why.number() as u64, 0)
+    // By hand, not by `write!` of `why`: of what that leaves in a lent slice the library promises nothing.
+    let size = bytes::put(text, b"refused ");
+    size + put_line(&mut text[size..], &[u64::from(why.number())])
 }
 
-// The row that begins at a word.
-fn put_row(text: &mut [u8], at: usize, words: &[u32], from: usize) -> usize
-    requires row_there { from + row_words ≤ length words.now }
-    requires room { at + length (row_line (row_at words.now from)) ≤ length text.old }
-    ensures value { result ≡ at + length (row_line (row_at words.now from)) }
-    ensures text_after { text.new ≡ placed text.old at (row_line (row_at words.now from)) }
+// The fields of a row as they are printed: the whole number, then a word each.
+fn fields(row: &[u32; ROW_WORDS]) -> [u64; ROW_FIELDS]
+    ensures { result ≡ row_fields row.now }
 {
-    let mut next = at;
-    let mut i: usize = 0;
-    while i < ROW_FIELDS {
-        next = put_field(text, next, field(words, from, i), LAST - i);
-        i += 1;
-    }
-    next
+    let [high, low, balance, conductivity, ratio, nitrogen, flag] = *row;
+    [
+        number::whole(high, low),
+        u64::from(balance),
+        u64::from(conductivity),
+        u64::from(ratio),
+        u64::from(nitrogen),
+        u64::from(flag),
+    ]
 }
 
-// A field of the row that begins at a word: the whole number, or a word after its own.
-fn field(words: &[u32], from: usize, i: usize) -> u64
-    requires row_there { from + row_words ≤ length words.now }
-    requires i_in_bounds { i < length row_widths }
-    ensures { result ≡ get_or (row_fields (row_at words.now from)) i 0 }
+// A line of fields.
+fn put_line(text: &mut [u8], fields: &[u64]) -> usize
+    requires { length (line fields.now) ≤ length text.old }
+    ensures value { result ≡ length (line fields.now) }
+    ensures text_after { text.new ≡ lent_after (given (line fields.now)) text.old }
 {
-    if i == 0 {
-        let high = words[from];
-        let low = words[from + 1];
-        return number::whole(high, low);
+    let mut size = 0;
+    for (i, field) in fields.iter().enumerate() {
+        size += put_field(&mut text[size..], *field, fields.len() - 1 - i);
     }
-    words[from + NUMBER_WORDS + (i - 1)] as u64
+    size
 }
 
 // A field, and the byte that ends it, by how many fields come after it on its line.
-fn put_field(text: &mut [u8], at: usize, n: u64, after: usize) -> usize
-    requires { at + length (decimal n ++ (ending after ∷ [])) ≤ length text.old }
-    ensures value { result ≡ at + length (decimal n ++ (ending after ∷ [])) }
-    ensures text_after { text.new ≡ placed text.old at (decimal n ++ (ending after ∷ [])) }
+// A count and no enum, since the definition of a field's end goes by it.
+fn put_field(text: &mut [u8], n: u64, after: usize) -> usize
+    requires { length (decimal n ++ (ending after ∷ [])) ≤ length text.old }
+    ensures value { result ≡ length (decimal n ++ (ending after ∷ [])) }
+    ensures text_after { text.new ≡ lent_after (given (decimal n ++ (ending after ∷ []))) text.old }
 {
-    let next = decimal::put_number(text, at, n);
-    text[next] = ending(after);
-    next + 1
+    let size = decimal::put_number(text, n);
+    text[size] = ending(after);
+    size + 1
 }
 
 // A space where others come after it, else the newline.

@@ -3,6 +3,7 @@ use mathlib.Core.Path.{◌≡◌, refl, sym, ap, ◌∙◌}
 use mathlib.Core.Bool.{true, false, true≢false}
 use Prim.Native.Nat.{ℕ}
 use lib.Ieee.{Float}
+use Rattle.std.specs.Bool.{then_some}
 use Rattle.refusal.specs.Outcome.{Outcome}
 use Rattle.refusal.specs.Outcome.Outcome.{given, refused}
 use Rattle.refusal.proofs.Outcomes.{never}
@@ -11,9 +12,9 @@ use Rattle.reading.specs.declared.Reading.TheVariants.{Missing, Measured, Below}
 use Rattle.reading.specs.declared.Analyte.{Analyte}
 use Rattle.reading.specs.Ranges.{is_value, is_limit}
 use Rattle.reading.specs.Readings.{is_in_range, InRange}
-use Rattle.reading.specs.Amounts.{Amount, value_mass, half_mass, value_amount, half_amount, amount_of}
-use Rattle.reading.specs.Analytes.{present, mass_in, mass_of, limit_of, analyte_of, with_amount}
-use Rattle.reading.proofs.Tested.{refuses, gives}
+use Rattle.reading.specs.Amounts.{value_mass, half_mass, value_amount, half_amount, amount_of}
+use Rattle.reading.specs.Analytes.{present, mass_of, limit_of, analyte_of, with_amount}
+use Rattle.reading.specs.Answers.{amount_in}
 
 -- ---- the mass of a reading in range
 pub missing-mass : 0 ≡ mass_of Missing
@@ -22,43 +23,33 @@ missing-mass = refl
 
 pub measured-mass : (x : Float) → is_value x ≡ true → value_mass x ≡ mass_of (Measured x)
 unfolding mass_of value_amount
-measured-mass x h = ap mass_in (gives (Amount.mass (value_mass x)) h)
+measured-mass x h = rw h
 
 pub below-mass : (x : Float) → is_limit x ≡ true → half_mass x ≡ mass_of (Below x)
 unfolding mass_of half_amount
-below-mass x h = ap mass_in (gives (Amount.mass (half_mass x)) h)
+below-mass x h = rw h
 
 -- nothing of a limit out of range
 pub none_below : (x : Float) → is_limit x ≡ false → 0 ≡ mass_of (Below x)
 unfolding mass_of half_amount
-none_below x h = ap mass_in (refuses (Amount.mass (half_mass x)) h)
+none_below x h = rw h
 
 -- ---- its amount, by whether it is in range and there
 pub none-out-of-range : (r : Reading) → is_in_range r ≡ false → refused 7 ≡ amount_of r
 unfolding value_amount half_amount
 none-out-of-range Missing h = absurd (true≢false h)
-none-out-of-range (Measured x) h = refuses (Amount.mass (value_mass x)) h
-none-out-of-range (Below x) h = refuses (Amount.mass (half_mass x)) h
+none-out-of-range (Measured x) h = rw h
+none-out-of-range (Below x) h = rw h
 
-pub none-missing : (r : Reading) → present r ≡ false → given Amount.missing ≡ amount_of r
-none-missing Missing h = refl
-none-missing (Measured x) h = absurd (true≢false h)
-none-missing (Below x) h = absurd (true≢false h)
-
-pub mass-there : (r : Reading) → InRange r → present r ≡ true → given (Amount.mass (mass_of r)) ≡ amount_of r
+pub given-in-range : (r : Reading) → InRange r → given (amount_in (then_some (present r) (analyte_of r).mass)) ≡ amount_of r
 unfolding mass_of value_amount half_amount
-mass-there Missing h t = absurd (true≢false (sym t))
-mass-there (Measured x) h t = rw h
-mass-there (Below x) h t = rw h
+given-in-range Missing h = refl
+given-in-range (Measured x) h = rw h
+given-in-range (Below x) h = rw h
 
 -- ---- a reading with its amounts
 pub with-amounts : {r q : Reading} {m l : ℕ} → q ≡ r → m ≡ mass_of q → l ≡ limit_of q → record { reading = q; mass = record { 0 = m }; limit = record { 0 = l } } ≡ analyte_of r
 with-amounts is e f = rw (sym is, e, f)
-
--- one that was read
-pub read-with : (o : Outcome Reading) (r : Reading) (a : Analyte) → given r ≡ o → a ≡ analyte_of r → given a ≡ with_amount o
-unfolding with_amount
-read-with o r a e f = rw (sym e, f)
 
 -- ---- what an answer tells
 pub was-analyte : (o : Outcome Reading) (a : Analyte) → given a ≡ with_amount o → (o ≡ given a.reading) × (a ≡ analyte_of a.reading)

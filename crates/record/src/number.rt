@@ -6,7 +6,7 @@ ghost use Rattle.record.specs.Number.{whole_number, high_part, low_part, NumberL
 const WORD_VALUES: u64 = 4294967296;
 
 // The two words of a number.
-#[derive(Clone, Copy)]
+#[derive(Clone, Copy, Debug, PartialEq, Eq)]
 pub struct Parts {
     pub high: u32,
     pub low: u32,
@@ -14,11 +14,12 @@ pub struct Parts {
 
 // The number that two words make, any two: none is too great for 64 bits. The second promise says that no other two words
 // make it.
+// By two words and no `Parts`: a record has them as words.
 pub fn whole(high: u32, low: u32) -> u64
     ensures answer { result ≡ whole_number high low }
     ensures laws { NumberLaws }
 {
-    high as u64 * WORD_VALUES + low as u64
+    u64::from(high) * WORD_VALUES + u64::from(low)
 }
 
 // The two words that make a number.

@@ -1,28 +1,32 @@
-// The refusals of document 01 and of document 02 (iii), each under a name, with the paper's number; and the answer of a call
-// that writes to a lent slice.
+// The refusals of document 01 and of document 02 (iii), each under a name, with the paper's number: the error of every call that
+// may refuse.
 #![tactic(auto)]
+
+pub mod lent;
 
 ghost use Rattle.std.specs.Prelude.{◌≡◌};
 ghost use Rattle.refusal.specs.Numbers.{number_of};
 
+use std::fmt;
+
 // Why a call refuses. 1 to 10 come from the input, 11 to 13 from the state, 14 and 15 from two batches that are joined.
-#[derive(Clone, Copy)]
+#[derive(Clone, Copy, Debug, PartialEq, Eq)]
 pub enum Refusal {
-    RecordLength,
-    SampleNumber,
-    Kind,
-    Ph,
-    Conductivity,
-    Alkalinity,
-    Reading,
-    BatchLength,
-    Count,
-    Chart,
-    DocketClosed,
-    OtherSample,
-    OutputLength,
-    SetupDiffers,
-    JoinedCount,
+    RecordLength = 1,
+    SampleNumber = 2,
+    Kind = 3,
+    Ph = 4,
+    Conductivity = 5,
+    Alkalinity = 6,
+    Reading = 7,
+    BatchLength = 8,
+    Count = 9,
+    Chart = 10,
+    DocketClosed = 11,
+    OtherSample = 12,
+    OutputLength = 13,
+    SetupDiffers = 14,
+    JoinedCount = 15,
 }
 
 impl Refusal {
@@ -30,29 +34,18 @@ impl Refusal {
     pub fn number(self) -> u32
         ensures { result ≡ number_of self }
     {
-        match self {
-            Refusal::RecordLength => 1,
-            Refusal::SampleNumber => 2,
-            Refusal::Kind => 3,
-            Refusal::Ph => 4,
-            Refusal::Conductivity => 5,
-            Refusal::Alkalinity => 6,
-            Refusal::Reading => 7,
-            Refusal::BatchLength => 8,
-            Refusal::Count => 9,
-            Refusal::Chart => 10,
-            Refusal::DocketClosed => 11,
-            Refusal::OtherSample => 12,
-            Refusal::OutputLength => 13,
-            Refusal::SetupDiffers => 14,
-            Refusal::JoinedCount => 15,
-        }
+        self as u32
     }
 }
 
-// What a call that writes to a lent slice answers: how long its answer there is, or why nothing was written.
-#[derive(Clone, Copy)]
-pub enum Written {
-    Length(usize),
-    Refused(Refusal),
+// A refusal as it is printed.
+impl fmt::Display for Refusal {
+    ghost use Rattle.std.specs.Prelude.{Some};
+    ghost use Rattle.refusal.specs.Text.{refusal_text};
+
+    ghost output = { λ why. Some (refusal_text why) };
+
+    fn fmt<W: fmt::Write>(&self, f: &mut fmt::Formatter<W>) -> fmt::Result {
+        write!(f, "refused {}", self.number())
+    }
 }

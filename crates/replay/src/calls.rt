@@ -1,9 +1,9 @@
-// The number of each call. A call prints its line and says true, or prints nothing and says false where the words are
-// not what it takes.
+// The calls by their numbers. A call prints its line, or prints nothing and stops where the words are not what it takes.
+use crate::stop::Stop;
 use crate::{batches, control_charts, dockets, floors, joins, readings, records, refusals};
-use std::io;
 
-pub fn answer(rt: &impl Print, call: u32, words: &[u32]) -> io::Result<bool> {
+pub fn answer(rt: &impl Print, call: u32, words: &[u32]) -> Result<(), Stop> {
+    // By `match` and no table of functions: the call comes as a number of the input.
     match call {
         1 => floors::floor_at(rt, words),
         2 => readings::from_words(rt, words),
@@ -24,6 +24,6 @@ pub fn answer(rt: &impl Print, call: u32, words: &[u32]) -> io::Result<bool> {
         17 => joins::join(rt, words),
         18 => batches::test(rt, words),
         19 => joins::join_bytes(rt, words),
-        _ => Ok(false),
+        _ => Err(Stop::Malformed),
     }
 }

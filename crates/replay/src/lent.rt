@@ -1,14 +1,15 @@
 // Slices that are lent for an answer: their old content, and how they are shown after the call.
 ghost use Rattle.std.specs.Prelude.{◌≤◌, length};
 
-use crate::print;
-use refusal::Written;
-use std::io;
+use crate::stop::Stop;
+use refusal::Refusal;
+use std::fmt;
 
 // The old content of a lent word, less its index.
 const OLD: u32 = 900000000;
 
 // The most words that are lent.
+// A call makes its own buffer of this size, of which a part is lent: there is no heap, and each call has other arguments.
 pub const MOST_WORDS: usize = 320;
 
 // The old content of lent bytes, and the most that are lent.
@@ -16,45 +17,36 @@ pub const OLD_BYTE: u8 = 126;
 
 pub const MOST_BYTES: usize = 1024;
 
+// The most bytes that a case lends as the input of a call.
+pub const MOST_INPUT: usize = 4096;
+
 // Every word gets another old content, so that one that moved is seen.
 pub fn fill(out: &mut [u32])
     requires { length out.old ≤ 320 }
 {
-    let mut i: usize = 0;
-    while i < out.len() {
-        out[i] = OLD + i as u32;
-        i += 1;
+    for (i, word) in out.iter_mut().enumerate() {
+        *word = OLD + i as u32;
     }
 }
 
 // What a call answered that wrote to a lent slice, and no end of the line.
-pub fn print_answer(rt: &impl Print, name: &str, answer: Written) -> io::Result<()> {
+pub fn print_answer(
+    rt: &impl Print,
+    name: &str,
+    answer: Result<usize, Refusal>,
+) -> Result<(), Stop> {
     match answer {
-        Written::Length(n) => print::long_number(rt, name, n as u64),
-        Written::Refused(why) => print::one_number(rt, "refused ", why.number()),
+        Ok(n) => print!(rt; "{name}{n}")?,
+        Err(why) => print!(rt; "{why}")?,
     }
+    Ok(())
 }
 
-// The words of a lent slice, and the end of the line.
-pub fn print_words(rt: &impl Print, out: &[u32]) -> io::Result<()> {
-    let mut i: usize = 0;
-    while i < out.len() {
-        print::one_number(rt, " ", out[i])?;
-        i += 1;
+// What a lent slice holds, as numbers, and the end of the line.
+pub fn print_all<T: fmt::Display>(rt: &impl Print, out: &[T]) -> Result<(), Stop> {
+    for item in out {
+        print!(rt; " {item}")?;
     }
-    print::text(rt, "")
-}
-
-fn wide(byte: u8) -> u32 {
-    byte as u32
-}
-
-// Lent bytes as numbers, and the end of the line.
-pub fn print_bytes(rt: &impl Print, out: &[u8]) -> io::Result<()> {
-    let mut i: usize = 0;
-    while i < out.len() {
-        print::one_number(rt, " ", wide(out[i]))?;
-        i += 1;
-    }
-    print::text(rt, "")
+    println!(rt; "")?;
+    Ok(())
 }

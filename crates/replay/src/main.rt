@@ -11,50 +11,52 @@ mod floats;
 mod floors;
 mod joins;
 mod lent;
-mod print;
+mod parts;
 mod readings;
 mod records;
 mod refusals;
+mod stop;
 
 use std::io;
 use std::io::Read;
+use stop::Stop;
 
-// Reads the words of a case and answers it. Says whether the case was well formed.
-fn answer_case(rt: &impl Print, reader: &mut impl Read, call: u32, count: u32) -> io::Result<bool> {
-    let n = count as usize;
-    if n > input::MOST_WORDS {
-        return Ok(false);
-    }
+// Reads the words of a case and answers it.
+fn answer_case(rt: &impl Print, reader: &mut impl Read, call: u32, count: u32) -> Result<(), Stop> {
+    // No heap: room for the most words of a case, of which a slice goes on.
     let mut words = [0u32; input::MOST_WORDS];
-    // Its start is written out, since the check then knows its length.
-    let part = &mut words[0..n];
-    let got = input::read(reader, part);
-    if got.words < n {
-        return Ok(false);
+    let case = words.get_mut(..count as usize).ok_or(Stop::Malformed)?;
+    let got = input::read(reader, case);
+    if got.words < case.len() {
+        return Err(Stop::Malformed);
     }
-    calls::answer(rt, call, part)
+    calls::answer(rt, call, case)
 }
 
-// Reads a case and prints its line. Says whether to go on: not at the end of the input, nor after a malformed case.
-fn replay_case(rt: &impl Print, reader: &mut impl Read) -> io::Result<bool> {
+// Reads a case and prints its line.
+fn replay_case(rt: &impl Print, reader: &mut impl Read) -> Result<(), Stop> {
     let mut head = [0u32; 2];
     let got = input::read(reader, &mut head);
     if got.bytes == 0 {
-        return Ok(false);
+        return Err(Stop::Ended);
     }
-    let is_answered = got.words == 2 && answer_case(rt, reader, head[0], head[1])?;
-    if !is_answered {
-        print::text(rt, "malformed")?;
+    if got.words < 2 {
+        return Err(Stop::Malformed);
     }
-    Ok(is_answered)
+    let [call, count] = head;
+    answer_case(rt, reader, call, count)
 }
 
 // A loop has to end, and nothing says that the input does. So the turns are bounded, by a number that no run uses up.
 fn main(rt: HostRuntime) -> io::Result<()> {
     let mut reader = rt.reader();
     for _ in 0..u64::MAX {
-        if !replay_case(&rt, &mut reader)? {
-            break;
+        match replay_case(&rt, &mut reader) {
+            Ok(()) => {}
+            Err(Stop::Refused(why)) => println!(rt; "{why}")?,
+            Err(Stop::Ended) => return Ok(()),
+            Err(Stop::Malformed) => return println!(rt; "malformed"),
+            Err(Stop::Failed(why)) => return Err(why),
         }
     }
     Ok(())

@@ -1,40 +1,26 @@
 // The calls of `reading`.
-use crate::{floats, print};
-use reading::{AmountResult, Analysed, Reading, ReadingResult, WordsResult};
-use std::io;
+use crate::floats;
+use crate::stop::Stop;
+use reading::{Analysed, Reading};
 
 // A float by its pattern. No answer of the library holds a NaN; one that did would have no pattern to print.
-fn print_float(rt: &impl Print, before: &str, x: f32) -> io::Result<()> {
-    if x != x {
-        return print::text(rt, "nan");
+fn print_float(rt: &impl Print, before: &str, x: f32) -> Result<(), Stop> {
+    if x.is_nan() {
+        println!(rt; "nan")?;
+        return Ok(());
     }
-    print::word(rt, before, f32::to_bits(x))
+    let bits = x.to_bits();
+    println!(rt; "{before}{bits}")?;
+    Ok(())
 }
 
-fn print_reading(rt: &impl Print, answer: ReadingResult) -> io::Result<()> {
-    match answer {
-        ReadingResult::Given(reading) => match reading {
-            Reading::Missing => print::text(rt, "missing"),
-            Reading::Measured(x) => print_float(rt, "measured ", x),
-            Reading::Below(x) => print_float(rt, "below ", x),
-        },
-        ReadingResult::Refused(why) => print::refused(rt, why),
+fn print_reading(rt: &impl Print, reading: Reading) -> Result<(), Stop> {
+    match reading {
+        Reading::Missing => println!(rt; "missing")?,
+        Reading::Measured(x) => print_float(rt, "measured ", x)?,
+        Reading::Below(x) => print_float(rt, "below ", x)?,
     }
-}
-
-fn print_amount(rt: &impl Print, answer: AmountResult) -> io::Result<()> {
-    match answer {
-        AmountResult::Missing => print::text(rt, "missing"),
-        AmountResult::Given(mass) => print::number(rt, "amount ", mass.0),
-        AmountResult::Refused(why) => print::refused(rt, why),
-    }
-}
-
-fn print_words(rt: &impl Print, answer: WordsResult) -> io::Result<()> {
-    match answer {
-        WordsResult::Given(words) => print::two_words(rt, "words ", words.mark, words.bits),
-        WordsResult::Refused(why) => print::refused(rt, why),
-    }
+    Ok(())
 }
 
 // A reading made by hand and not by the library, so that floats out of range reach it too.
@@ -47,41 +33,43 @@ fn reading_by_hand(mark: u32, bits: u32) -> Reading {
 }
 
 // A mark and a pattern: the reading that they are.
-pub fn from_words(rt: &impl Print, words: &[u32]) -> io::Result<bool> {
-    if words.len() != 2 {
-        return Ok(false);
-    }
-    print_reading(rt, Reading::from_words(words[0], words[1]))?;
-    Ok(true)
+pub fn from_words(rt: &impl Print, words: &[u32]) -> Result<(), Stop> {
+    let [mark, bits] = *words else {
+        return Err(Stop::Malformed);
+    };
+    print_reading(rt, Reading::from_words(mark, bits)?)
 }
 
 // The patterns of a value and of its limit: the reading made of them.
-pub fn to_reading(rt: &impl Print, words: &[u32]) -> io::Result<bool> {
-    if words.len() != 2 {
-        return Ok(false);
-    }
-    let analysed = Analysed {
-        value: floats::of_pattern(words[0]),
-        limit: floats::of_pattern(words[1]),
+pub fn to_reading(rt: &impl Print, words: &[u32]) -> Result<(), Stop> {
+    let [value, limit] = *words else {
+        return Err(Stop::Malformed);
     };
-    print_reading(rt, analysed.to_reading())?;
-    Ok(true)
+    let analysed = Analysed {
+        value: floats::of_pattern(value),
+        limit: floats::of_pattern(limit),
+    };
+    print_reading(rt, analysed.to_reading()?)
 }
 
 // A mark and a pattern: the amount of the reading made of them by hand.
-pub fn amount(rt: &impl Print, words: &[u32]) -> io::Result<bool> {
-    if words.len() != 2 {
-        return Ok(false);
+pub fn amount(rt: &impl Print, words: &[u32]) -> Result<(), Stop> {
+    let [mark, bits] = *words else {
+        return Err(Stop::Malformed);
+    };
+    match reading_by_hand(mark, bits).amount()? {
+        None => println!(rt; "missing")?,
+        Some(mass) => println!(rt; "amount {}", mass.0)?,
     }
-    print_amount(rt, reading_by_hand(words[0], words[1]).amount())?;
-    Ok(true)
+    Ok(())
 }
 
 // A mark and a pattern: the words of the reading made of them by hand.
-pub fn words(rt: &impl Print, words: &[u32]) -> io::Result<bool> {
-    if words.len() != 2 {
-        return Ok(false);
-    }
-    print_words(rt, reading_by_hand(words[0], words[1]).words())?;
-    Ok(true)
+pub fn words(rt: &impl Print, words: &[u32]) -> Result<(), Stop> {
+    let [mark, bits] = *words else {
+        return Err(Stop::Malformed);
+    };
+    let made = reading_by_hand(mark, bits).words()?;
+    println!(rt; "words {} {}", made.mark, made.bits)?;
+    Ok(())
 }

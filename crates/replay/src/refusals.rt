@@ -1,42 +1,34 @@
 // The call of `refusal`.
-use crate::print;
+use crate::stop::Stop;
 use refusal::Refusal;
-use std::io;
 
-// How many refusals documents 01 and 02 list.
-const REFUSALS: u32 = 15;
-
-// The refusals in the order of the documents, from place 1; the last stands at every other place.
-fn refusal_at(place: u32) -> Refusal {
-    match place {
-        1 => Refusal::RecordLength,
-        2 => Refusal::SampleNumber,
-        3 => Refusal::Kind,
-        4 => Refusal::Ph,
-        5 => Refusal::Conductivity,
-        6 => Refusal::Alkalinity,
-        7 => Refusal::Reading,
-        8 => Refusal::BatchLength,
-        9 => Refusal::Count,
-        10 => Refusal::Chart,
-        11 => Refusal::DocketClosed,
-        12 => Refusal::OtherSample,
-        13 => Refusal::OutputLength,
-        14 => Refusal::SetupDiffers,
-        _ => Refusal::JoinedCount,
-    }
-}
+// The refusals in the order of the documents, from place 1.
+const REFUSALS: [Refusal; 15] = [
+    Refusal::RecordLength,
+    Refusal::SampleNumber,
+    Refusal::Kind,
+    Refusal::Ph,
+    Refusal::Conductivity,
+    Refusal::Alkalinity,
+    Refusal::Reading,
+    Refusal::BatchLength,
+    Refusal::Count,
+    Refusal::Chart,
+    Refusal::DocketClosed,
+    Refusal::OtherSample,
+    Refusal::OutputLength,
+    Refusal::SetupDiffers,
+    Refusal::JoinedCount,
+];
 
 // A place in the documents' list: the number of the refusal there.
-pub fn number(rt: &impl Print, words: &[u32]) -> io::Result<bool> {
-    if words.len() != 1 {
-        return Ok(false);
-    }
-    let place = words[0];
-    if place < 1 || place > REFUSALS {
-        return Ok(false);
-    }
-    let why = refusal_at(place);
-    print::word(rt, "number ", why.number())?;
-    Ok(true)
+pub fn number(rt: &impl Print, words: &[u32]) -> Result<(), Stop> {
+    let [place] = *words else {
+        return Err(Stop::Malformed);
+    };
+    let place = (place as usize).checked_sub(1).ok_or(Stop::Malformed)?;
+    let why = *REFUSALS.get(place).ok_or(Stop::Malformed)?;
+    let number = why.number();
+    println!(rt; "number {number}")?;
+    Ok(())
 }

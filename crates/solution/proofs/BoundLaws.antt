@@ -61,7 +61,7 @@ pub gap-small : (b : Bool) → gap b ≤ 1
 gap-small true = omega arith
 gap-small false = omega arith
 
-held-bounded : (f : Fields) (floor : ℕ) → Ranged f (floor + 1) → Bounded (sum_ranges_held f floor)
+pub held-bounded : (f : Fields) (floor : ℕ) → Ranged f (floor + 1) → Bounded (sum_ranges_held f floor)
 held-bounded f floor r =
     let above = gap-small (is_whole f.ph) in
     record {
@@ -87,7 +87,7 @@ none-most x =
       total = zero-le;
     }
 
-none-bounded : Bounded no_sum_ranges
+pub none-bounded : Bounded no_sum_ranges
 none-bounded = record { ordered = none-most no_sums; most = none-most most_sums; least_tenths = refl; most_tenths = refl }
 
 -- of any fields

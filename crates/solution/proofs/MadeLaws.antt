@@ -15,7 +15,7 @@ use Rattle.solution.specs.declared.Nitrogen.{Nitrogen}
 use Rattle.solution.specs.declared.Sums.{Sums}
 use Rattle.solution.specs.declared.ions.Eight.{Eight}
 use Rattle.solution.specs.Ions.{hydrogen_conductance, hydrogen_charge_number, alkalinity_charge, alkalinity_conductance, alkalinity_charge_number, strength_added, sum}
-use Rattle.solution.specs.Solutions.{gap, measured_of, sums_in, sum_ranges_in}
+use Rattle.solution.specs.Solutions.{gap, measured_of, sums_in, ends_in}
 use Rattle.solution.specs.ByValue.{there_at, amount_at, sums_held, sum_ranges_held}
 use Rattle.solution.specs.Steps.{Ranged, IonSums, RatioOf, NitrogenOf}
 use Rattle.solution.proofs.SameLaws.{same-sums, same-ranges}
@@ -73,5 +73,5 @@ module _ (f : Fields) (floor : ℕ) (r : Ranged f (floor + 1)) where
     pub both-made : {known : Bool} {least most : Sums} → known ≡ all_below (there_at f.analytes) ions
         → sums_in least ≡ sums_held f false floor
         → sums_in most ≡ sums_held f true hydrogen.0
-        → sum_ranges_in (record { known = known; whole = whole; least = least; most = most }) ≡ sum_ranges_held f floor
+        → ends_in known whole least most ≡ sum_ranges_held f floor
     both-made k l m = same-ranges k w l (m ∙ ap (sums_held f true) (h ∙ ap (λ (b : Bool). floor + gap b) w))

@@ -5,7 +5,6 @@ use Rattle.hydrogen.specs.Floors.{is_whole, floor_at}
 use Rattle.reading.specs.Analytes.{present, analyte_of, AmountRange, range_of}
 use Rattle.record.specs.Record.{ions, readings, ammonium, sodium, nitrate, chloride, total_nitrogen, ph_of, conductivity_of, alkalinity_of, reading_at, all_below}
 use Rattle.solution.specs.declared.Sums.{Sums as SumsHeld}
-use Rattle.solution.specs.declared.Solution.{Solution}
 use Rattle.solution.specs.Ions.{cation_charge, anion_charge, conducted, strength_added, hydrogen_conductance, hydrogen_charge_number, alkalinity_charge, alkalinity_conductance, alkalinity_charge_number, sum}
 
 -- ---- what a record leaves open: each amount from its least to its greatest, and hydrogen
@@ -113,5 +112,6 @@ sums_in x =
       total = x.nitrogen.total.0;
     }
 
-abbrev pub sum_ranges_in : Solution → SumRanges
-sum_ranges_in x = record { known = x.known; whole = x.whole; least = sums_in x.least; most = sums_in x.most }
+-- of the two ends of a solution's sums
+abbrev pub ends_in : Bool → Bool → SumsHeld → SumsHeld → SumRanges
+ends_in known whole least most = record { known = known; whole = whole; least = sums_in least; most = sums_in most }

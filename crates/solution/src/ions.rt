@@ -5,41 +5,90 @@ ghost use Rattle.reading.specs.Amounts.{most_mass};
 ghost use Rattle.record.specs.Record.{ions, readings, all_below};
 ghost use Rattle.solution.specs.Ions.{charge_unit, strength_added, sum};
 ghost use Rattle.solution.specs.ByValue.{there_at, amount_at};
-ghost use Rattle.solution.specs.Steps.{Small, RowOf, Adds, IonSums, RatioOf};
+ghost use Rattle.solution.specs.Ends.{is_greatest};
+ghost use Rattle.solution.specs.Steps.{RowOf, Adds, IonSums, RatioOf};
 
-use crate::{Charge, Conductivity, SodiumChloride, amounts, strength};
+use crate::amounts::Amounts;
+use crate::{Charge, Conductivity, SodiumChloride};
 use activity::IonicStrength;
 use reading::{Analyte, Mass};
 use record::IONS;
+use std::ops::Add;
 
-// Charge in 10^3 u for each tenth of a µg/L: a column for the cations, one for the anions.
-const CATION: [u64; IONS] = [7139, 4990, 8229, 4350, 2558, 0, 0, 0];
+// A row of the table.
+#[derive(Clone, Copy)]
+// Nothing compares or prints these.
+struct Row {
+    // Charge in 10^3 u for each tenth of a µg/L, of a cation and of an anion.
+    cation: u64,
+    anion: u64,
+    // 10^-13 µS/cm for each u.
+    conductance: u64,
+    // The charge number.
+    number: u64,
+}
 
-const ANION: [u64; IONS] = [0, 0, 0, 0, 0, 6237, 7139, 2821];
-// 10^-13 µS/cm for each u.
-const CONDUCTANCE: [u64; IONS] = [735, 595, 531, 501, 735, 800, 714, 764];
+// The ions' rows, in the order of a record's readings.
+const TABLE: [Row; IONS] = [
+    Row {
+        cation: 7139,
+        anion: 0,
+        conductance: 735,
+        number: 1, // NH4
+    },
+    Row {
+        cation: 4990,
+        anion: 0,
+        conductance: 595,
+        number: 2, // Ca
+    },
+    Row {
+        cation: 8229,
+        anion: 0,
+        conductance: 531,
+        number: 2, // Mg
+    },
+    Row {
+        cation: 4350,
+        anion: 0,
+        conductance: 501,
+        number: 1, // Na
+    },
+    Row {
+        cation: 2558,
+        anion: 0,
+        conductance: 735,
+        number: 1, // K
+    },
+    Row {
+        cation: 0,
+        anion: 6237,
+        conductance: 800,
+        number: 2, // SO4
+    },
+    Row {
+        cation: 0,
+        anion: 7139,
+        conductance: 714,
+        number: 1, // NO3
+    },
+    Row {
+        cation: 0,
+        anion: 2821,
+        conductance: 764,
+        number: 1, // Cl
+    },
+];
 
 pub const HYDROGEN_CONDUCTANCE: u64 = 3500;
 
 pub const ALKALINITY_CONDUCTANCE: u64 = 445;
-// The ions' charge numbers.
-const CHARGE_NUMBER: [u64; IONS] = [1, 2, 2, 1, 1, 2, 1, 1];
 
 pub const HYDROGEN_CHARGE_NUMBER: u64 = 1;
 
 pub const ALKALINITY_CHARGE_NUMBER: u64 = 1;
 // u in the unit of the charge columns.
 const CHARGE_UNIT: u64 = 1000;
-
-// A row of the table.
-#[derive(Clone, Copy)]
-struct Row {
-    cation: u64,
-    anion: u64,
-    conductance: u64,
-    // The charge number.
-    number: u64,
-}
 
 // What an amount of an ion adds to the sums: to one side of the balance, 0 to the other, to the conductivity and to the strength.
 #[derive(Clone, Copy)]
@@ -59,27 +108,45 @@ pub struct Eight {
 }
 
 impl Charge {
-    pub(crate) fn plus(self, other: Charge) -> Charge
-        requires { self.0 + other.0 < 2 ^ 64 }
-        ensures { result.0 ≡ self.0 + other.0 }
-    {
-        Charge(self.0 + other.0)
-    }
-
     // What it conducts, by a row's conductance.
+    // Two functions and no generic one: a number times a charge is of another unit each time, and the types keep the units apart.
     pub(crate) fn conducting(self, conductance: u64) -> Conductivity
         requires { conductance * self.0 < 2 ^ 64 }
         ensures { result.0 ≡ conductance * self.0 }
     {
         Conductivity(conductance * self.0)
     }
+
+    // Its strength, by a row's charge number. Ionic strength is half the sum of such products (document 02 (v)), so that a charge
+    // in u times a number is a strength in halves of 10^-15 mol/L.
+    pub(crate) fn strength(self, number: u64) -> IonicStrength
+        requires { number * self.0 < 2 ^ 64 }
+        ensures { result.0 ≡ number * self.0 }
+    {
+        IonicStrength(number * self.0)
+    }
 }
 
-impl Conductivity {
-    pub(crate) fn plus(self, other: Conductivity) -> Conductivity
-        requires { self.0 + other.0 < 2 ^ 64 }
-        ensures { result.0 ≡ self.0 + other.0 }
-    {
+impl Add for Charge {
+    type Output = Charge;
+
+    ghost can_add = { λ a b. a.0 + b.0 < 2 ^ 64 };
+
+    ghost add_gives = { λ a b r. r.0 ≡ a.0 + b.0 };
+
+    fn add(self, other: Charge) -> Charge {
+        Charge(self.0 + other.0)
+    }
+}
+
+impl Add for Conductivity {
+    type Output = Conductivity;
+
+    ghost can_add = { λ a b. a.0 + b.0 < 2 ^ 64 };
+
+    ghost add_gives = { λ a b r. r.0 ≡ a.0 + b.0 };
+
+    fn add(self, other: Conductivity) -> Conductivity {
         Conductivity(self.0 + other.0)
     }
 }
@@ -92,17 +159,12 @@ fn charge(factor: u64, m: Mass) -> Charge
     Charge(CHARGE_UNIT * (factor * m.0))
 }
 
-// The entries of the four columns for an ion.
+// The row of an ion.
 fn row_at(ion: usize) -> Row
     requires { ion < ions }
     ensures { RowOf ion result }
 {
-    Row {
-        cation: CATION[ion],
-        anion: ANION[ion],
-        conductance: CONDUCTANCE[ion],
-        number: CHARGE_NUMBER[ion],
-    }
+    TABLE[ion]
 }
 
 // By its row.
@@ -113,9 +175,9 @@ fn of_ion(ion: usize, m: Mass) -> Ion
     let row = row_at(ion);
     let cation = charge(row.cation, m);
     let anion = charge(row.anion, m);
-    let charge = cation.plus(anion);
+    let charge = cation + anion;
     let conductivity = charge.conducting(row.conductance);
-    let strength = strength::of_charge(charge, row.number);
+    let strength = charge.strength(row.number);
     Ion {
         cation,
         anion,
@@ -124,70 +186,59 @@ fn of_ion(ion: usize, m: Mass) -> Ion
     }
 }
 
-// Of a record's readings at one end. The loop has no way out: a missing ion has no amount, and adds nothing.
-pub fn sums_of(analytes: [Analyte; record::READINGS], greatest: bool) -> Eight
-    requires { Small analytes }
-    ensures { IonSums greatest analytes result }
-{
-    let mut cations = Charge(0);
-    let mut anions = Charge(0);
-    let mut conductivity = Conductivity(0);
-    let mut i: usize = 0;
-    while i < IONS {
-        let analyte = analytes[i];
-        let ion = of_ion(i, amounts::at_end(analyte, greatest));
-        cations = cations.plus(ion.cation);
-        anions = anions.plus(ion.anion);
-        conductivity = conductivity.plus(ion.conductivity);
-        i += 1;
-    }
-    Eight {
-        cations,
-        anions,
-        conductivity,
-    }
-}
-
-// The strength of the eight at one end. A loop of its own: with a fourth sum the compiler no longer unrolls the one above.
-pub fn strength_of(analytes: [Analyte; record::READINGS], greatest: bool) -> IonicStrength
-    requires { Small analytes }
-    ensures { result.0 ≡ sum (λ i. strength_added i * amount_at greatest analytes i) readings }
-{
-    let mut strength = IonicStrength(0);
-    let mut i: usize = 0;
-    while i < IONS {
-        let analyte = analytes[i];
-        let ion = of_ion(i, amounts::at_end(analyte, greatest));
-        strength = strength::plus(strength, ion.strength);
-        i += 1;
-    }
-    strength
-}
-
-// Whether none of the eight is missing.
-pub fn are_present(analytes: [Analyte; record::READINGS]) -> bool
-    ensures { result ≡ all_below (there_at analytes) ions }
+// Whether none of the eight is missing. The loop has no way out.
+pub fn are_present(analytes: &[Analyte; record::READINGS]) -> bool
+    ensures { result ≡ all_below (there_at analytes.now) ions }
 {
     let mut known = true;
-    let mut i: usize = 0;
-    while i < IONS {
-        let analyte = analytes[i];
-        known = known & analyte.is_present();
-        i += 1;
+    for i in 0..IONS {
+        known &= analytes[i].is_present();
     }
     known
 }
 
-// The two charges of the sodium/chloride ratio at one end.
-pub fn sodium_chloride(analytes: [Analyte; record::READINGS], greatest: bool) -> SodiumChloride
-    requires { Small analytes }
-    ensures { RatioOf greatest analytes result }
-{
-    let sodium = analytes[record::SODIUM];
-    let chloride = analytes[record::CHLORIDE];
-    let sodium = of_ion(record::SODIUM, amounts::at_end(sodium, greatest));
-    let chloride = of_ion(record::CHLORIDE, amounts::at_end(chloride, greatest));
-    let sodium = sodium.cation;
-    let chloride = chloride.anion;
-    SodiumChloride { sodium, chloride }
+impl Amounts {
+    // The sums of the eight. The loop has no way out: a missing ion has no amount, and adds nothing.
+    pub fn eight(&self) -> Eight
+        ensures { IonSums (is_greatest self.now.end) self.now.analytes result }
+    {
+        let mut cations = Charge(0);
+        let mut anions = Charge(0);
+        let mut conductivity = Conductivity(0);
+        for i in 0..IONS {
+            let ion = of_ion(i, self.at(i));
+            cations = cations + ion.cation;
+            anions = anions + ion.anion;
+            conductivity = conductivity + ion.conductivity;
+        }
+        Eight {
+            cations,
+            anions,
+            conductivity,
+        }
+    }
+
+    // The strength of the eight. A loop of its own: with a fourth sum the compiler no longer unrolled the one above.
+    pub fn strength(&self) -> IonicStrength
+        ensures { result.0 ≡ sum (λ i. strength_added i * amount_at (is_greatest self.now.end) self.now.analytes i) readings }
+    {
+        let mut strength = IonicStrength(0);
+        for i in 0..IONS {
+            let ion = of_ion(i, self.at(i));
+            strength = strength + ion.strength;
+        }
+        strength
+    }
+
+    // The two charges of the sodium/chloride ratio.
+    pub fn sodium_chloride(&self) -> SodiumChloride
+        ensures { RatioOf (is_greatest self.now.end) self.now.analytes result }
+    {
+        let sodium = of_ion(record::SODIUM, self.at(record::SODIUM));
+        let chloride = of_ion(record::CHLORIDE, self.at(record::CHLORIDE));
+        SodiumChloride {
+            sodium: sodium.cation,
+            chloride: chloride.anion,
+        }
+    }
 }

@@ -10,23 +10,18 @@ use record::{MOST_ALKALINITY, MOST_CONDUCTIVITY, READINGS, TestedRecord};
 pub fn hold(own: TestedRecord, floor: u64) -> bool
     ensures { result ≡ in_ranges (fields_in own) floor }
 {
-    let analytes = own.analytes;
     (floor <= MOST_FLOOR)
         & ((own.conductivity <= MOST_CONDUCTIVITY)
-            & ((own.alkalinity <= MOST_ALKALINITY) & are_small(analytes)))
+            & ((own.alkalinity <= MOST_ALKALINITY) & are_small(&own.analytes)))
 }
 
 // The loop has no way out: of a record that was tested, all of them are.
-fn are_small(analytes: [Analyte; READINGS]) -> bool
-    ensures { result ≡ are_small analytes }
+fn are_small(analytes: &[Analyte; READINGS]) -> bool
+    ensures { result ≡ are_small analytes.now }
 {
     let mut small = true;
-    let mut i: usize = 0;
-    while i < READINGS {
-        let analyte = analytes[i];
-        let range = analyte.range();
-        small = small & (range.most.0 <= MOST_MASS);
-        i += 1;
+    for analyte in analytes {
+        small &= analyte.range().most.0 <= MOST_MASS;
     }
     small
 }

@@ -5,12 +5,13 @@ use Prim.Native.Nat.{ℕ, ◌+◌, ◌-◌, ◌≤◌}
 use native.Mathlib.Omega.{arith}
 use native.Mathlib.Nat.{add-sub_cancel_left}
 use lib.ListN.{length, take, drop, length-drop}
-use lib.Seq.{take_all, drop-drop}
+use lib.Seq.{drop-drop}
+use Rattle.std.proofs.lemmas.List.{take_rest}
 
 module _ (s : List ℕ) where
   -- `&s[at..]`, and what is behind the first words of it
   pub rest_of : (at : ℕ) → take (length s - at) (drop at s) ≡ drop at s
-  rest_of at = take_all (length s - at) (drop at s) (omega (arith, length-drop at s))
+  rest_of at = take_rest s at
 
   pub rest-behind : (at n : ℕ) → drop n (take (length s - at) (drop at s)) ≡ drop (at + n) s
   rest-behind at n = ap (drop n) (rest_of at) ∙ drop-drop n at s

@@ -1,9 +1,7 @@
 -- To be believed, in this order: how bytes hold words (`Words`), words put into a slice (`Placing`), words read from the front, a
 -- part at a time (`FromFront`), the words of parts that are given as values (`Sections`), and properties of every part (`Each`).
--- `Steps` is the code's own form, which a reader of the promises can pass over.
 pub mod Words
 pub mod Placing
 pub mod FromFront
 pub mod Sections
 pub mod Each
-pub mod Steps

@@ -2,9 +2,7 @@
 // that it takes every slice.
 #![tactic(auto)]
 
-mod packed;
-
-ghost use Rattle.std.specs.Prelude.{◌≡◌, ◌-◌, ◌≤◌, min, length};
+ghost use Rattle.std.specs.Prelude.{◌≡◌, ◌≤◌, length};
 ghost use Rattle.words.specs.Words.{words_of, bytes_of, BytesHoldWords};
 ghost use Rattle.words.specs.Placing.{within, placed_within};
 
@@ -18,11 +16,11 @@ pub fn unpack(bytes: &[u8], words: &mut [u32]) -> usize
     ensures lent { words.new ≡ placed_within words.old 0 (words_of bytes.now) }
     ensures inside { result ≤ length words.new }
 {
-    let count = lesser(bytes.len() / WORD_BYTES, words.len());
-    let mut i: usize = 0;
-    while i < count {
-        words[i] = packed::word(bytes, i * WORD_BYTES);
-        i += 1;
+    let (fours, _) = bytes.as_chunks::<WORD_BYTES>();
+    let count = fours.len().min(words.len());
+    // By index, since of words that a zip lends a proof knows nothing once they are given back.
+    for (i, word) in words[..count].iter_mut().enumerate() {
+        *word = u32::from_le_bytes(fours[i]);
     }
     count
 }
@@ -34,11 +32,9 @@ pub fn pack(words: &[u32], bytes: &mut [u8]) -> usize
     ensures lent { bytes.new ≡ placed_within bytes.old 0 (bytes_of words.now) }
     ensures back { BytesHoldWords }
 {
-    let count = lesser(WORD_BYTES * words.len(), bytes.len());
-    let mut i: usize = 0;
-    while i < count {
-        bytes[i] = packed::byte(words, i);
-        i += 1;
+    let count = (WORD_BYTES * words.len()).min(bytes.len());
+    for (i, byte) in bytes[..count].iter_mut().enumerate() {
+        *byte = words[i / WORD_BYTES].to_le_bytes()[i % WORD_BYTES];
     }
     count
 }
@@ -47,23 +43,7 @@ pub fn pack(words: &[u32], bytes: &mut [u8]) -> usize
 pub fn place(words: &[u32], into: &mut [u32], at: usize)
     ensures lent { into.new ≡ placed_within into.old at words.now }
 {
-    let count = lesser(words.len(), room(into.len(), at));
-    let mut i: usize = 0;
-    while i < count {
-        into[at + i] = words[i];
-        i += 1;
-    }
-}
-
-// How many places a slice of that length has from one on.
-fn room(length: usize, at: usize) -> usize
-    ensures { result ≡ «length» - at }
-{
-    if length < at { 0 } else { length - at }
-}
-
-fn lesser(a: usize, b: usize) -> usize
-    ensures { result ≡ min a b }
-{
-    if a < b { a } else { b }
+    let at = at.min(into.len());
+    let count = words.len().min(into.len() - at);
+    into[at..at + count].copy_from_slice(&words[..count]);
 }

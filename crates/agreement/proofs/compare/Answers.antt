@@ -1,21 +1,18 @@
 -- By how the two tests ended.
-use mathlib.Core.Path.{sym, ap, ◌∙◌}
+use mathlib.Core.Path.{ap}
 use Rattle.refusal.specs.Outcome.Outcome.{given}
+use Rattle.refusal.proofs.Outcomes.{handed-on}
 use Rattle.agreement.specs.Compared.{compared_of}
 use Rattle.agreement.proofs.compare.Goals as goal
 
-pub returns-in-Refused : goal.returns-in-Refused
+pub returns-in_err-one : goal.returns-in_err-one
 unfolding compared_of
-returns-in-Refused c = rw c.in-Refused.is
+returns-in_err-one c = rw c.in_err-one.was (handed-on _ _ c.from_residual.ensures.1)
 
-pub returns-in-Refused-tested : goal.returns-in-Refused-tested
+pub returns-in_err-other : goal.returns-in_err-other
 unfolding compared_of
-returns-in-Refused-tested c = rw (c.in_default.is, c.in-Refused-tested.is)
+returns-in_err-other c = rw (c.in_ok-one.was, c.in_err-other.was) (handed-on _ _ c.from_residual-in_err-other.ensures.1)
 
-pub returns-then-agrees : goal.returns-then-agrees
+pub returns : goal.returns
 unfolding compared_of
-returns-then-agrees c = rw (c.in_default.is, c.in_default-tested.is) (ap given (sym c.if-agrees.true ∙ c.agrees.ensures))
-
-pub returns-else-agrees : goal.returns-else-agrees
-unfolding compared_of
-returns-else-agrees c = rw (c.in_default.is, c.in_default-tested.is) (ap given (sym c.if-agrees.false ∙ c.agrees.ensures))
+returns c = rw (c.in_ok-one.was, c.in_ok-other.was) (ap given c.agrees.ensures)

@@ -1,4 +1,4 @@
--- What the call below wrote and returned, and the code and the length of that.
+-- What the call below wrote and answered, and the code and the length of that.
 use lib.ListN.{length}
 use Rattle.refusal.specs.Lent.{fitting}
 use Rattle.joining.specs.Joins.{joined_of}

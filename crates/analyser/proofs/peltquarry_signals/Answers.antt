@@ -1,4 +1,4 @@
--- What the call below wrote and returned, and the code of that.
+-- What the call below wrote and answered, and the code of that.
 use lib.ListN.{length}
 use Rattle.refusal.specs.Lent.{fitting}
 use Rattle.chart.specs.Charts.{signals_of}

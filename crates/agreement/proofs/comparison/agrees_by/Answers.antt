@@ -1,24 +1,8 @@
--- By which of the two is larger.
-use mathlib.Core.Path.{◌≡◌}
-use Prim.Native.Nat.{◌-◌, max}
-use native.Mathlib.Omega.{arith}
-use Rattle.refusal.specs.Differences.{apart}
+-- The library's difference and greater number are the definition's.
 use Rattle.agreement.specs.Agreement.{agrees_by}
 use Rattle.agreement.proofs.Tenths.{tenth}
 use Rattle.agreement.proofs.comparison.agrees_by.Goals as goal
 
-pub returns-then-x-y : goal.returns-then-x-y
-unfolding agrees_by
-returns-then-x-y c =
-    let a = c.args in
-    let e : apart a.x a.y ≡ a.y - a.x = omega arith in
-    let m : max a.x a.y ≡ a.y = omega arith in
-    rw (e, m) (tenth (a.y - a.x) a.y)
-
 pub returns : goal.returns
 unfolding agrees_by
-returns c =
-    let a = c.args in
-    let e : apart a.x a.y ≡ a.x - a.y = omega arith in
-    let m : max a.x a.y ≡ a.x = omega arith in
-    rw (e, m) (tenth (a.x - a.y) a.x)
+returns c = rw (c.abs_diff.ensures, c.max.ensures) (tenth _ _)

@@ -1,24 +1,33 @@
--- The reading's words are lent, or its refusal stands.
+-- The words of the reading that the analysis becomes are lent, or a refusal stands.
 use mathlib.Core.Path.{◌≡◌, sym, ap, ◌∙◌}
-use Rattle.refusal.specs.Outcome.Outcome.{given, refused}
-use Rattle.refusal.specs.Numbers.{number_of}
-use Rattle.reading.specs.Answers.{words_outcome}
-use Rattle.analyser.specs.Analyses.{pair_of, reading_words}
-use Rattle.analyser.proofs.CallLaws.{same-fitting, refusing}
+use Rattle.refusal.specs.Outcome.{outcome_of}
+use Rattle.refusal.specs.Outcome.Outcome.{given}
+use Rattle.analyser.specs.Analyses.{pair_of, reading_words, analysed_words}
+use Rattle.analyser.proofs.CallLaws.{same-fitting, refusing-fitting}
 use Rattle.analyser.proofs.reading_words.lend_reading.Goals as goal
 
-pub returns-in-Given : goal.returns-in-Given
-unfolding reading_words
-returns-in-Given c =
+pub returns-in_err-reading : goal.returns-in_err-reading
+unfolding analysed_words
+returns-in_err-reading c =
     let a = c.args in
-    let e : reading_words a.reading ≡ given (pair_of c.in-Given.words) = simp (sym c.words.ensures.answer ∙ ap words_outcome c.in-Given.is) in
-    let said = same-fitting a.lent.now e (c.lend.ensures.code, c.lend.ensures.after) in
-    record { code = said.0; after = said.1 }
+    let said = refusing-fitting a.lent.now {o = analysed_words a.analysed.value a.analysed.limit} _ _ c.from_residual.ensures.1 (simp (sym c.to_reading.ensures ∙ ap outcome_of c.in_err-reading.was)) in
+    record { answer = said.0; after = said.1 }
 
-pub returns-in-Refused : goal.returns-in-Refused
-unfolding reading_words
-returns-in-Refused c =
+pub returns-in_err-words : goal.returns-in_err-words
+unfolding analysed_words reading_words
+returns-in_err-words c =
     let a = c.args in
-    let e : reading_words a.reading ≡ refused (number_of c.in-Refused.why) = simp (sym c.words.ensures.answer ∙ ap words_outcome c.in-Refused.is) in
-    let said = refusing a.lent.now e c.number.ensures in
-    record { code = said.0; after = said.1 }
+    let said =
+    refusing-fitting a.lent.now {o = analysed_words a.analysed.value a.analysed.limit} _ _ c.from_residual-in_err-words.ensures.1
+    (simp (sym c.to_reading.ensures ∙ ap outcome_of c.in_ok-reading.was, sym c.words.ensures.answer ∙ ap outcome_of c.in_err-words.was))
+    in
+    record { answer = said.0; after = said.1 }
+
+pub returns : goal.returns
+unfolding analysed_words reading_words
+returns c =
+    let a = c.args in
+    let e : analysed_words a.analysed.value a.analysed.limit ≡ given (pair_of c.in_ok-words.words) =
+    simp (sym c.to_reading.ensures ∙ ap outcome_of c.in_ok-reading.was, sym c.words.ensures.answer ∙ ap outcome_of c.in_ok-words.was) in
+    let said = same-fitting a.lent.now e (c.lend.ensures.answer, c.lend.ensures.lent) in
+    record { answer = said.0; after = said.1 }

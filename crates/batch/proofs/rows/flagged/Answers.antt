@@ -1,17 +1,15 @@
--- No chart before i flags the record: what is left of the columns decides.
-use mathlib.Core.Path.{refl, sym, ◌∙◌}
-use borrow.Author.Rules.{rules}
-use Rattle.batch.proofs.FlagLaws.{flag-found, flag-next, flag-end}
+-- The search tells of each chart what the definition does.
+use mathlib.Core.Path.{◌∙◌}
+use Rattle.std.proofs.Common.{rules, tests}
+use Rattle.std.proofs.lemmas.Iterator.{YieldsList-from_slice}
+use Rattle.std.proofs.lemmas.Iterator.Search.{any_from_yields_List}
+use Rattle.record.specs.Tested.{fields_in, has_reading_in}
+use Rattle.batch.proofs.FlagLaws.{flags, flag-any}
 use Rattle.batch.proofs.rows.flagged.Goals as goal
 
-pub loop-i-init : goal.loop-i-init
-loop-i-init c = (search rules, refl)
-
-pub returns-then-flagged_by : goal.returns-then-flagged_by
-returns-then-flagged_by c = sym (c.loop-i.invariant.1 ∙ flag-found _ _ _ _ c.loop-i-test.true (search rules) (sym c.flagged_by.ensures ∙ c.if-flagged_by.true))
-
-pub loop-i-preserved : goal.loop-i-preserved
-loop-i-preserved c = (search rules, c.loop-i.invariant.1 ∙ flag-next _ _ _ _ c.loop-i-test.true (search rules) (sym c.flagged_by.ensures ∙ c.if-flagged_by.false))
-
 pub returns : goal.returns
-returns c = sym (c.loop-i.invariant.1 ∙ flag-end _ _ _ _ c.loop-i-test.false)
+returns c =
+    let charts = c.args.charts.now in
+    let has = has_reading_in (fields_in c.args.own) in
+    any_from_yields_List (flags has) _ _ _ c.any.ensures.ran (YieldsList-from_slice charts cc) (λ x b q k. search (rules, tests))
+    ∙ flag-any has charts

@@ -1,13 +1,12 @@
--- Whether all words so far are values, and the words from place i on, decide.
-use mathlib.Core.Path.{sym}
-use Rattle.chart.proofs.EveryLaws.{none_seen, one_more, all_seen}
+-- Whether all words so far are values decides.
+use mathlib.Core.Path.{refl}
+use Rattle.chart.specs.Values.{every}
+use Rattle.chart.proofs.EveryLaws.{every_more}
 use Rattle.chart.proofs.values.are_values.Goals as goal
 
-pub loop-i-init : goal.loop-i-init
-loop-i-init c = none_seen _ _
+pub loop-word-init : goal.loop-word-init
+unfolding every
+loop-word-init c = refl
 
-pub loop-i-preserved : goal.loop-i-preserved
-loop-i-preserved c = one_more c.loop-i.invariant c.loop-i-test.true
-
-pub returns : goal.returns
-returns c = sym (all_seen c.loop-i.invariant c.loop-i-test.false)
+pub loop-word-preserved : goal.loop-word-preserved
+loop-word-preserved c = rw (every_more _ _ _ c.loop-word-test.true, c.loop-word.invariant)

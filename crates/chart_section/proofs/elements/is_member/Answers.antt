@@ -1,17 +1,16 @@
--- The element is among those used as it is among those the loop has not seen; it is left at the first that is the same.
-use mathlib.Core.Path.{refl, sym, ◌∙◌}
-use Rattle.chart_section.proofs.ElementLaws.{member-found, member-next, member-none}
-use borrow.Author.Rules.{rules}
+-- The search tells it of the charts, as the definition does of their elements.
+use mathlib.Core.Path.{◌∙◌}
+use lib.Dec.{eqb}
+use Rattle.std.proofs.Common.{rules, tests}
+use Rattle.std.proofs.lemmas.Iterator.{YieldsList-from_slice}
+use Rattle.std.proofs.lemmas.Iterator.Search.{any_from_yields_List}
+use Rattle.chart_section.specs.declared.columns.ChartSignal.{ChartSignal}
+use Rattle.chart_section.proofs.ElementLaws.{member-any}
 use Rattle.chart_section.proofs.elements.is_member.Goals as goal
 
-pub loop-i-init : goal.loop-i-init
-loop-i-init c = (search rules, refl)
-
-pub returns-then-used-i : goal.returns-then-used-i
-returns-then-used-i c = sym (c.loop-i.invariant.1 ∙ member-found _ _ _ c.loop-i-test.true c.if-used-i.true)
-
-pub loop-i-preserved : goal.loop-i-preserved
-loop-i-preserved c = (search rules, c.loop-i.invariant.1 ∙ member-next _ _ _ c.loop-i-test.true c.if-used-i.false)
-
 pub returns : goal.returns
-returns c = sym (c.loop-i.invariant.1 ∙ member-none _ _ _ c.loop-i-test.false)
+returns c =
+    let used = c.args.used.now in
+    let element = c.args.element in
+    any_from_yields_List (λ (chart : ChartSignal). eqb chart.element element) _ _ _ c.any.ensures.ran (YieldsList-from_slice used cc) (λ x b q k. search (rules, tests))
+    ∙ member-any element used

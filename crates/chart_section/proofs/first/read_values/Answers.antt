@@ -2,6 +2,7 @@
 use native.Mathlib.Omega.{arith}
 use lib.ListN.{length-drop}
 use Rattle.chart_section.specs.ChartSection.{head_words}
+use Rattle.std.proofs.lemmas.Result.{err_from_is_err_and}
 use Rattle.chart.proofs.ValueLaws.{counts-within}
 use Rattle.chart_section.proofs.ChartLaws.{values-short, values-taken, values-refused}
 use Rattle.chart_section.proofs.first.read_values.Goals as goal
@@ -15,8 +16,10 @@ overflow_add-end c = let h = counts-within _ _ c.requires.1 in record { fits = o
 pub returns-then-words-end : goal.returns-then-words-end
 returns-then-words-end c = values-short _ _ _ _ (omega (arith, length-drop head_words c.args.words.now, c.if-words-end.true))
 
-pub returns-in-Given : goal.returns-in-Given
-returns-in-Given c = values-taken _ _ _ c.args.words.now c.requires.1 c.if-words-end.false c.last_signal.ensures c.in-Given.is
+pub returns-in_err-signal : goal.returns-in_err-signal
+returns-in_err-signal c =
+    let p = err_from_is_err_and c.from_residual.result c.from_residual.ensures.1 in
+    rw (p.1, p.2) (values-refused _ _ _ c.args.words.now c.requires.1 c.if-words-end.false c.last_signal.ensures c.in_err-signal.was)
 
-pub returns-in-Refused : goal.returns-in-Refused
-returns-in-Refused c = values-refused _ _ _ c.args.words.now c.requires.1 c.if-words-end.false c.last_signal.ensures c.in-Refused.is
+pub returns : goal.returns
+returns c = values-taken _ _ _ c.args.words.now c.requires.1 c.if-words-end.false c.last_signal.ensures c.in_ok-signal.was

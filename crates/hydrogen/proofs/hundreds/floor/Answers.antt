@@ -1,19 +1,23 @@
 -- `hydrogen::hundreds::floor` meets its contract: the floor at p is made from its entry.
-use mathlib.Core.Path.{◌≡◌, sym}
-use Prim.Native.Nat.{ℕ, ◌/◌, ◌^◌, ◌≤◌}
-use native.Mathlib.Nat.{one-le-pow}
+use mathlib.Core.Path.{◌≡◌, sym, ap, ◌∙◌}
+use Prim.Native.Nat.{ℕ, ◌^◌, ◌<◌}
+use native.Mathlib.Nat.{zero-add}
 use native.Mathlib.Omega.{arith}
+use lib.Dec.{eqb}
+use lib.ListN.{get_or}
 use borrow.Author.Rules.{rules}
-use Rattle.hydrogen.specs.Floors.{least_ph, greatest_ph, floor_at}
-use Rattle.hydrogen.proofs.HundredLaws.{divides-by-ten, entry_for, hundreds_to, floor-from-entry}
+use Rattle.std.proofs.Math.Facts.{eqb_yes}
+use Rattle.refusal.proofs.Tables.{at}
+use Rattle.hydrogen.specs.declared.hundreds.TheConstants.{TENS}
+use Rattle.hydrogen.proofs.HundredLaws.{divides-by-ten, hundreds_to, floor-from-entry}
 use Rattle.hydrogen.proofs.hundreds.floor.Goals as goal
 
-divided : (p first by : ℕ) → least_ph ≤ p → p ≤ greatest_ph → first ≡ floor_at (entry_for p) → by ≡ 10 ^ hundreds_to p → first / by ≡ floor_at p
-divided p first by l u e f = rw (e, f) (sym (floor-from-entry p l u))
-
--- no power of ten is 0
-pub nonzero_div-result : goal.nonzero_div-result
-nonzero_div-result c = rw c.power_of_ten.ensures (one-le-pow _ 10 (omega arith))
+-- the list has the powers of ten
+power : (k : ℕ) → k < 9 → get_or TENS k 0 ≡ 10 ^ k
+power k h = eqb_yes (at (λ i x. eqb x (10 ^ i)) TENS 0 tt k h) ∙ ap (λ (i : ℕ). 10 ^ i) (zero-add k)
 
 pub returns : goal.returns
-returns c = record { answer = divided _ _ _ (search rules) (search rules) c.entry-first.ensures c.power_of_ten.ensures; law = divides-by-ten }
+returns c = record {
+  answer = rw (c.entry-first.ensures, power (hundreds_to c.args.p) (omega arith)) (sym (floor-from-entry c.args.p (search rules) (search rules)));
+  law = divides-by-ten;
+}

@@ -1,36 +1,28 @@
--- The charts from place i on decide what is found.
-use Rattle.joining.proofs.WalkLaws.{words-there, seek-begins, seek-inside, seek-lent, seek-fits, seek_found, seek-next, seek-end}
+-- The charts from the place of the loop on decide what is found.
+use Rattle.joining.proofs.WalkLaws.{words-there, there-here, seek-begins, seek_found, seek-next, seek-end}
 use borrow.Author.Rules.{rules}
 use Rattle.joining.proofs.finding.find.Goals as goal
+
+pub slice_bounds-rest-count : goal.slice_bounds-rest-count
+slice_bounds-rest-count c = search (rules, words-there)
+
+pub slice_bounds-rest-start : goal.slice_bounds-rest-start
+slice_bounds-rest-start c = search (rules, words-there)
 
 pub bounds-words-0 : goal.bounds-words-0
 bounds-words-0 c = search (rules, words-there)
 
-pub loop-i-init : goal.loop-i-init
-loop-i-init c = search seek-begins
+pub loop-init : goal.loop-init
+loop-init c = seek-begins _ _ c.requires
 
-pub slice_bounds-key-count : goal.slice_bounds-key-count
-slice_bounds-key-count c = let inside = seek-inside _ _ _ _ _ c.loop-i.invariant (search rules) in search rules
+pub split-requires : goal.split-requires
+split-requires c = there-here _ _ _ c.loop.invariant.walk c.loop-test.true
 
-pub key-requires : goal.key-requires
-key-requires c = search seek-lent
+pub returns-then-chart-key : goal.returns-then-chart-key
+returns-then-chart-key c = seek_found _ _ _ _ c.loop.invariant c.loop-test.true _ c.split.ensures.chart c.if-chart-key.true
 
-pub returns-then-key : goal.returns-then-key
-returns-then-key c = seek_found _ _ _ _ _ c.loop-i.invariant (search rules) c.key.ensures (search rules)
-
-pub slice_bounds-size-count : goal.slice_bounds-size-count
-slice_bounds-size-count c = let inside = seek-inside _ _ _ _ _ c.loop-i.invariant (search rules) in search rules
-
-pub size-at-requires : goal.size-at-requires
-size-at-requires c = search seek-lent
-
-pub overflow_add-at : goal.overflow_add-at
-overflow_add-at c =
-    let fits = seek-fits _ _ _ _ _ c.loop-i.invariant (search rules) c.size-at.ensures in
-    search rules
-
-pub loop-i-preserved : goal.loop-i-preserved
-loop-i-preserved c = seek-next _ _ _ _ _ c.loop-i.invariant (search rules) c.key.ensures (search rules) c.size-at.ensures
+pub loop-preserved : goal.loop-preserved
+loop-preserved c = seek-next _ _ _ _ c.loop.invariant c.loop-test.true _ c.split.ensures.chart c.if-chart-key.false c.split.ensures.rest
 
 pub returns : goal.returns
-returns c = search seek-end
+returns c = seek-end _ _ _ _ c.loop.invariant c.loop-test.false

@@ -1,44 +1,40 @@
 -- `Adding` holds before each turn.
-use Prim.Native.Nat.{◌+◌, ◌≤◌}
-use lib.ListN.{length}
-use native.Mathlib.Omega.{arith}
-use Rattle.joining.proofs.WalkLaws.{words-there}
-use Rattle.joining.proofs.SecondLaws.{adding-begins, adding-inside, adding-there, adding-few, adding-room, adding-fits, adding-next, adding-done}
+use Rattle.joining.proofs.WalkLaws.{words-there, there-here}
+use Rattle.joining.proofs.SecondLaws.{adding-begins, adding-few, adding-new, adding-known, adding-done, none-there, some-there}
 use borrow.Author.Rules.{rules}
+use Rattle.joining.proofs.second.add_second.Goals.{then-is_none, else-is_none}
 use Rattle.joining.proofs.second.add_second.Goals as goal
 
+pub slice_bounds-rest-count : goal.slice_bounds-rest-count
+slice_bounds-rest-count c = let there = words-there _ c.requires.has_charts.1 in search rules
+
+pub slice_bounds-rest-start : goal.slice_bounds-rest-start
+slice_bounds-rest-start c = let there = words-there _ c.requires.has_charts.1 in search rules
+
 pub bounds-second-0 : goal.bounds-second-0
-bounds-second-0 c = search (rules, words-there)
+bounds-second-0 c = let there = words-there _ c.requires.has_charts.1 in search rules
 
-pub bounds-first-0 : goal.bounds-first-0
-bounds-first-0 c = search (rules, words-there)
+pub loop-init : goal.loop-init
+loop-init c = adding-begins _ _ _ c.requires.has_charts.0 c.requires.has_charts.1 c.requires.held
 
-pub loop-i-init : goal.loop-i-init
-loop-i-init c = search adding-begins
+pub split-requires : goal.split-requires
+split-requires c = there-here _ _ _ c.loop.invariant.walk c.loop-test.true
 
-pub offset_bounds-second-at : goal.offset_bounds-second-at
-offset_bounds-second-at c = let h = adding-inside _ _ _ _ _ _ _ _ c.loop-i.invariant c.loop-i-test.true in search rules
+pub put-requires : goal.put-requires
+put-requires c =
+    let none = none-there _ c.find.ensures c.is_none.ensures c.if-is_none.true in
+    (search rules, adding-few _ _ _ _ _ c.loop.invariant c.loop-test.true _ c.split.ensures.chart none)
 
-pub slice_bounds-add_one-count : goal.slice_bounds-add_one-count
-slice_bounds-add_one-count c = let h = adding-inside _ _ _ _ _ _ _ _ c.loop-i.invariant c.loop-i-test.true in search rules
-
-pub slice_bounds-add_one-start : goal.slice_bounds-add_one-start
-slice_bounds-add_one-start c = let h = adding-inside _ _ _ _ _ _ _ _ c.loop-i.invariant c.loop-i-test.true in search rules
-
-pub add_one-added-requires : goal.add_one-added-requires
-add_one-added-requires c =
-    let a = c.loop-i.invariant in
-    record { chart_there = (adding-there _ _ _ _ _ _ _ _ a c.loop-i-test.true, a.has, adding-few _ _ _ _ _ _ _ _ a); room = adding-room _ _ _ _ _ _ _ _ a c.loop-i-test.true }
-
-pub overflow_add-at : goal.overflow_add-at
-overflow_add-at c =
-    let h : c.loop-i.at + c.add_one-added.result.read ≤ length c.args.second.now =
-    adding-fits _ _ _ _ _ _ _ _ c.loop-i.invariant c.loop-i-test.true c.add_one-added.result _ c.add_one-added.ensures in
-    let g = c.well_formed in
-    omega arith
-
-pub loop-i-preserved : goal.loop-i-preserved
-loop-i-preserved c = adding-next _ _ _ _ _ _ _ _ c.loop-i.invariant c.loop-i-test.true c.add_one-added.result _ c.add_one-added.ensures
+pub loop-preserved : goal.loop-preserved
+loop-preserved c =
+    let a = c.loop.invariant in
+    let l = c.loop-test.true in
+    let read = c.split.ensures.chart in
+    let behind = c.split.ensures.rest in
+    elim c.if-is_none.branch [
+      | then-is_none w ↦ rw w.buffer-is (adding-new _ _ _ _ _ a l _ read (none-there _ c.find.ensures c.is_none.ensures w.if-is_none.true) w.put.ensures behind)
+      | else-is_none w ↦ rw w.buffer-is (adding-known _ _ _ _ _ a l _ read (some-there _ c.find.ensures c.is_none.ensures w.if-is_none.false).1 behind)
+    ]
 
 pub returns : goal.returns
-returns c = adding-done _ _ _ _ _ _ _ _ c.loop-i.invariant c.loop-i-test.false
+returns c = let done = adding-done _ _ _ _ _ c.loop.invariant c.loop-test.false in record { rest = done.0; held = done.1 }

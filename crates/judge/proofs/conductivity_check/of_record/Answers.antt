@@ -1,51 +1,45 @@
--- The ways of the check, which applies to every kind: no solution is too strong for a bracket, and the products by its ends have
--- room.
-use native.Mathlib.Omega.{arith}
-use borrow.Author.Tests.{not-true, not-false}
-use Rattle.judge.proofs.CheckWays.{conductivity-missing, conductivity-decided}
-use Rattle.judge.proofs.CorrectionLaws.{not-strong, ends-small, least-made, most-made}
+-- No solution is too strong for a bracket, and the products by its ends have room.
+use borrow.Author.Tests.{not-false}
+use Rattle.judge.specs.ByValue.{conductivity_in}
+use Rattle.judge.proofs.CorrectionLaws.{not-strong, least-fits, most-fits, least-made, most-made}
 use Rattle.judge.proofs.RoundingLaws.{corrected-decided}
-use Rattle.judge.proofs.RoomLaws.{conductivity-handed}
+use Rattle.judge.proofs.RoomLaws.{conductivity-room}
 use Rattle.judge.proofs.conductivity_check.of_record.Goals as goal
 
-pub returns-then-not-solution : goal.returns-then-not-solution
-returns-then-not-solution c = conductivity-missing _ _ (not-true c.args.solution.known c.if-not-solution.true)
-
 pub returns-in_default : goal.returns-in_default
-returns-in_default c = absurd (not-strong _ c.requires c.bracket-correction.ensures.answer c.in_default.is)
+returns-in_default c = absurd (not-strong _ c.args.solution.bounded c.bracket.ensures.answer c.in_default.is)
 
 pub times-smallest-requires : goal.times-smallest-requires
-times-smallest-requires c =
-    let bounded = c.requires in
-    let small = ends-small _ bounded c.bracket-correction.ensures.answer c.in-Between.is in
-    (omega (arith, small), omega (arith, bounded.ordered.calculated, bounded.most.calculated))
+times-smallest-requires c = least-fits _ c.args.solution.bounded c.bracket.ensures.answer c.in-Some.is
 
 pub times-largest-requires : goal.times-largest-requires
-times-largest-requires c =
-    let bounded = c.requires in
-    let small = ends-small _ bounded c.bracket-correction.ensures.answer c.in-Between.is in
-    (omega (arith, small), omega (arith, bounded.ordered.calculated, bounded.most.calculated))
+times-largest-requires c = most-fits _ c.args.solution.bounded c.bracket.ensures.answer c.in-Some.is
 
 pub decide-requires : goal.decide-requires
 decide-requires c =
-    let bounded = c.requires in
-    let given = c.bracket-correction.ensures.answer in
-    let is = c.in-Between.is in
-    conductivity-handed _ bounded _ c.window_at.ensures
-    (least-made _ bounded given is c.times-smallest.ensures) (most-made _ bounded given is c.times-largest.ensures)
-    c.of_conductivities-least.ensures c.of_conductivities-most.ensures
-
-pub returns : goal.returns
-returns c =
-    let bounded = c.requires in
-    let given = c.bracket-correction.ensures.answer in
-    let is = c.in-Between.is in
-    conductivity-decided _ _ (not-false c.args.solution.known c.if-not-solution.false)
-    (corrected-decided _ bounded _
-    (rw (
+    let bounded = c.args.solution.bounded in
+    let given = c.bracket.ensures.answer in
+    let is = c.in-Some.is in
+    rw (
       c.window_at.ensures,
-      c.of_conductivities-most.ensures,
-      c.of_conductivities-least.ensures,
+      c.of-least.ensures,
+      c.of-most.ensures,
       least-made _ bounded given is c.times-smallest.ensures,
       most-made _ bounded given is c.times-largest.ensures,
-    ) at c.decide.ensures))
+    ) (conductivity-room _ bounded _)
+
+pub returns : goal.returns
+unfolding conductivity_in
+returns c =
+    let bounded = c.args.solution.bounded in
+    let given = c.bracket.ensures.answer in
+    let is = c.in-Some.is in
+    let corrected = corrected-decided _ bounded _
+    (rw (
+      c.window_at.ensures,
+      c.of-most.ensures,
+      c.of-least.ensures,
+      least-made _ bounded given is c.times-smallest.ensures,
+      most-made _ bounded given is c.times-largest.ensures,
+    ) at c.decide.ensures) in
+    rw (not-false _ c.if-not-solution.false) corrected

@@ -1,11 +1,25 @@
--- What the batch's call returned and left is the answer whose text is written.
-use Rattle.listing.proofs.AnswerLaws.{answered}
+-- Each arm writes the text of the answer that the slice holds.
+use native.Mathlib.Nat.{le_trans, le_refl}
+use lib.ListN.{replicate}
+use Rattle.batch.specs.Rows.{most_answer}
+use Rattle.listing.specs.Listing.{text_of}
+use Rattle.listing.proofs.AnswerLaws.{answered, unanswered}
+use Rattle.listing.proofs.LengthLaws.{listed-fits, refused-fits}
 use Rattle.listing.proofs.judging.put_judged.Goals as goal
 
-pub put_answer-requires : goal.put_answer-requires
-put_answer-requires c = record { room = c.requires; answered = (answered c.args.words.now c.judge_batch-written.result _ _ c.judge_batch-written.ensures.answer c.judge_batch-written.ensures.lent).0 }
+pub put_listing-requires : goal.put_listing-requires
+put_listing-requires c =
+    let listed = (answered c.args.words.now (replicate most_answer 0) (rw c.in-Ok.is at c.judge_batch.ensures.answer) c.judge_batch.ensures.lent).0 in
+    record { rows_there = listed.size; room = le_trans (listed-fits _ listed) c.requires }
 
-pub returns : goal.returns
-returns c =
-    let words = c.args.words.now in
-    rw (answered words c.judge_batch-written.result _ _ c.judge_batch-written.ensures.answer c.judge_batch-written.ensures.lent).1 at c.put_answer.ensures
+pub put_refusal-requires : goal.put_refusal-requires
+put_refusal-requires c = le_trans (refused-fits _) c.requires
+
+pub returns-in-Ok : goal.returns-in-Ok
+unfolding text_of
+returns-in-Ok c =
+    rw (answered c.args.words.now (replicate most_answer 0) (rw c.in-Ok.is at c.judge_batch.ensures.answer) c.judge_batch.ensures.lent).1 c.put_listing.ensures
+
+pub returns-in-Err : goal.returns-in-Err
+unfolding text_of
+returns-in-Err c = rw (unanswered c.args.words.now (replicate most_answer 0) (le_refl _) (rw c.in-Err.is at c.judge_batch.ensures.answer)) c.put_refusal.ensures

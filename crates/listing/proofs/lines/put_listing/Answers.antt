@@ -1,45 +1,34 @@
 -- The line of the count is written; after each turn the lines of the rows that are left have to be written behind it.
-use borrow.Author.Rules.{rules}
-use mathlib.Core.List.{[], ◌∷◌}
-use mathlib.Core.Path.{◌≡◌, refl}
 use native.Mathlib.Omega.{arith}
-use lib.ListN.{get_or, drop, length-append}
-use Rattle.listing.specs.Listing.{line, row_lines, listing_text}
-use Rattle.listing.proofs.PartLaws.{second-room, both-written, left-all, left-none, left-room, left-next}
-use Rattle.listing.proofs.LineLaws.{rows_next, rows_none}
+use Rattle.listing.proofs.PartLaws.{left-none, left-room, left-next, first-room, left-first}
+use Rattle.listing.proofs.LineLaws.{count-first, rows-count, row-next, rows_end}
 use Rattle.listing.proofs.lines.put_listing.Goals as goal
 
-pub put_field-next-requires : goal.put_field-next-requires
-unfolding listing_text line
-put_field-next-requires c =
-    let words = c.args.words.now in
-    omega (arith, c.requires.room, length-append (line (get_or words 0 0 ∷ [])) (row_lines (get_or words 0 0) (drop 1 words)))
+pub put_line-size-requires : goal.put_line-size-requires
+put_line-size-requires c = first-room c.requires.room (count-first c.args.answer.now c.from.ensures)
 
-pub loop-left-init : goal.loop-left-init
-unfolding listing_text line
-loop-left-init c =
-    let words = c.args.words.now in
-    let room = second-room c.args.text.now (line (get_or words 0 0 ∷ [])) (row_lines (get_or words 0 0) (drop 1 words)) c.requires.room
-    c.put_field-next.ensures.text_after c.put_field-next.ensures.value refl in
-    (search rules, left-all _ _ _ room)
+pub loop-row-init : goal.loop-row-init
+loop-row-init c =
+    left-first c.requires.room (count-first c.args.answer.now c.from.ensures) c.put_line-size.ensures.text_after c.put_line-size.ensures.value
 
-pub put_row-next-requires : goal.put_row-next-requires
-put_row-next-requires c =
-    let words = c.args.words.now in
-    record { row_there = search rules; room = left-room c.loop-left.invariant.1 (rows_next words c.loop-left.from c.loop-left.left (search rules)) }
+pub put_line-size-requires-in-loop-row : goal.put_line-size-requires-in-loop-row
+put_line-size-requires-in-loop-row c =
+    let answer = c.args.answer.now in
+    let size = c.requires.rows_there in
+    left-room c.loop-row.invariant
+    (row-next answer size c.loop-row.row-index c.as_chunks.ensures.front c.fields.ensures (omega (arith, c.loop-row-test.true, c.as_chunks.ensures.front_len, rows-count answer size)))
 
-pub loop-left-preserved : goal.loop-left-preserved
-loop-left-preserved c =
-    let words = c.args.words.now in
-    let next = rows_next words c.loop-left.from c.loop-left.left (search rules) in
-    (search rules, left-next c.loop-left.invariant.1 next c.put_row-next.ensures.text_after c.put_row-next.ensures.value)
+pub loop-row-preserved : goal.loop-row-preserved
+loop-row-preserved c =
+    let answer = c.args.answer.now in
+    let size = c.requires.rows_there in
+    left-next c.loop-row.invariant
+    (row-next answer size c.loop-row.row-index c.as_chunks.ensures.front c.fields.ensures (omega (arith, c.loop-row-test.true, c.as_chunks.ensures.front_len, rows-count answer size)))
+    c.put_line-size-in-loop-row.ensures.text_after c.put_line-size-in-loop-row.ensures.value
 
 pub returns : goal.returns
-unfolding listing_text line
 returns c =
-    let words = c.args.words.now in
-    let none : c.loop-left.left ≡ 0 = search rules in
-    let rows = left-none (rw (none, rows_none) at c.loop-left.invariant.1) in
-    let said = both-written c.args.text.now (line (get_or words 0 0 ∷ [])) (row_lines (get_or words 0 0) (drop 1 words)) c.requires.room
-    c.put_field-next.ensures.text_after c.put_field-next.ensures.value refl rows.1 rows.0 in
+    let answer = c.args.answer.now in
+    let all = rows_end answer c.loop-row.row-index (omega (arith, c.loop-row-test.false, c.as_chunks.ensures.front_len, rows-count answer c.requires.rows_there)) in
+    let said = left-none (rw all at c.loop-row.invariant) in
     record { value = said.0; text_after = said.1 }

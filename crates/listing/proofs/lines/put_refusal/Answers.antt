@@ -1,27 +1,20 @@
 -- The word is copied, then the number's line is written after it.
-use mathlib.Core.List.{[], ◌∷◌, ◌++◌}
-use mathlib.Core.Path.{ap}
-use native.Mathlib.Omega.{arith}
-use Prim.Native.Nat.{ℕ}
-use Rattle.listing.specs.Decimal.{decimal}
-use Rattle.listing.specs.Listing.{ending, refused_word, line, refused_text}
-use Rattle.listing.proofs.PartLaws.{second-room, both-written}
+use mathlib.Core.Path.{◌∙◌}
+use Rattle.refusal.specs.Numbers.{number_of}
+use Rattle.listing.proofs.PartLaws.{left-none, left-room, left-next, first-room, left-first}
+use Rattle.listing.proofs.LineLaws.{line_alone, refused-first}
 use Rattle.listing.proofs.lines.put_refusal.Goals as goal
 
-pub copy-next-requires : goal.copy-next-requires
-unfolding refused_text
-copy-next-requires c = omega (arith, c.requires)
+pub put-size-requires : goal.put-size-requires
+put-size-requires c = first-room c.requires (refused-first (number_of c.args.why))
 
-pub put_field-requires : goal.put_field-requires
-unfolding refused_text line
-put_field-requires c =
-    second-room c.args.text.now refused_word _ c.requires c.copy-next.ensures.text_after c.copy-next.ensures.value
-    (ap (λ (n : ℕ). decimal n ++ (ending 0 ∷ [])) c.number.ensures)
+pub put_line-requires : goal.put_line-requires
+put_line-requires c =
+    let left = left-first c.requires (refused-first (number_of c.args.why)) c.put-size.ensures.text_after c.put-size.ensures.value in
+    left-room left (line_alone (c.from.ensures ∙ c.number.ensures))
 
 pub returns : goal.returns
-unfolding refused_text line
 returns c =
-    let said = both-written c.args.text.now refused_word _ c.requires c.copy-next.ensures.text_after c.copy-next.ensures.value
-    (ap (λ (n : ℕ). decimal n ++ (ending 0 ∷ [])) c.number.ensures)
-    c.put_field.ensures.text_after c.put_field.ensures.value in
+    let left = left-first c.requires (refused-first (number_of c.args.why)) c.put-size.ensures.text_after c.put-size.ensures.value in
+    let said = left-none (left-next left (line_alone (c.from.ensures ∙ c.number.ensures)) c.put_line.ensures.text_after c.put_line.ensures.value) in
     record { value = said.0; text_after = said.1 }

@@ -1,33 +1,14 @@
--- By whether the reading is in range, and whether it is there.
-use mathlib.Core.Path.{sym, ap, ◌∙◌}
-use mathlib.Core.Bool.{Bool}
-use Rattle.refusal.specs.Outcome.Outcome.{given}
-use Rattle.refusal.proofs.Testing.{failed, passed}
-use Rattle.reading.specs.declared.Analyte.{Analyte}
-use Rattle.reading.specs.Amounts.{Amount}
-use Rattle.reading.specs.Analytes.{present}
+-- By whether the reading is in range; what is given is its amount where it is there.
+use mathlib.Core.Path.{sym}
 use Rattle.reading.proofs.AmountProofs.{amount-laws}
-use Rattle.reading.proofs.AnalyteLaws.{none-out-of-range, none-missing, mass-there}
+use Rattle.reading.proofs.AnalyteLaws.{none-out-of-range, given-in-range}
 use Rattle.reading.proofs.Reading.amount.Goals as goal
 
--- whether the reading of an analyte is there
-abbrev there : Analyte → Bool
-there a = present a.reading
-
 pub returns-then-not-is_in_range : goal.returns-then-not-is_in_range
-returns-then-not-is_in_range c = record { answer = none-out-of-range c.args.self (failed c.is_in_range.ensures c.if-not-is_in_range.true-raw); laws = amount-laws }
+returns-then-not-is_in_range c = record { answer = none-out-of-range c.args.self (sym c.if-not-is_in_range.ensures); laws = amount-laws }
 
-pub of_reading-analyte-requires : goal.of_reading-analyte-requires
-of_reading-analyte-requires c = passed c.is_in_range.ensures c.if-not-is_in_range.false-raw
+pub returns-clause-laws : goal.returns-clause-laws
+returns-clause-laws c = amount-laws
 
-pub returns-then-not-is_present : goal.returns-then-not-is_present
-returns-then-not-is_present c = record { answer = none-missing c.args.self (sym (ap there c.of_reading-analyte.ensures) ∙ failed c.is_present.ensures c.if-not-is_present.true-raw); laws = amount-laws }
-
-pub returns : goal.returns
-returns c =
-    record {
-      answer = ap (λ (a : Analyte). given (Amount.mass a.mass.0)) c.of_reading-analyte.ensures
-          ∙ mass-there c.args.self (passed c.is_in_range.ensures c.if-not-is_in_range.false-raw)
-          (sym (ap there c.of_reading-analyte.ensures) ∙ passed c.is_present.ensures c.if-not-is_present.false-raw);
-      laws = amount-laws;
-    }
+pub returns-clause-answer : goal.returns-clause-answer
+returns-clause-answer c = rw (c.then_some.ensures, c.is_present.ensures, c.of_reading-analyte.ensures) (given-in-range c.args.self (sym c.if-not-is_in_range.ensures))

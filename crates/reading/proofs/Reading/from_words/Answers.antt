@@ -1,21 +1,10 @@
--- Each return is what the definition picks by the mark.
-use borrow.Author.Tests.{eq-eqb, ne_eqb}
-use Rattle.reading.specs.Readings.{reading_of}
-use Rattle.reading.proofs.WordProofs.{word_laws}
+-- A pattern in range is no NaN's.
+use mathlib.Core.Path.{sym}
+use Rattle.reading.proofs.RangeLaws.{not-nan-pattern}
 use Rattle.reading.proofs.Reading.from_words.Goals as goal
 
-pub returns-then-mark-eq-MISSING : goal.returns-then-mark-eq-MISSING
-unfolding reading_of
-returns-then-mark-eq-MISSING c = record { answer = simp (eq-eqb _ _ c.if-mark-eq-MISSING.true) c.missing.ensures; laws = word_laws }
+pub float_from_bits-result : goal.float_from_bits-result
+float_from_bits-result c = not-nan-pattern 0 c.args.bits (sym c.if-is_value_pattern.ensures)
 
-pub returns-then-mark-eq-MEASURED : goal.returns-then-mark-eq-MEASURED
-unfolding reading_of
-returns-then-mark-eq-MEASURED c = record { answer = simp (ne_eqb _ _ c.if-mark-eq-MISSING.false, eq-eqb _ _ c.if-mark-eq-MEASURED.true) c.measured.ensures; laws = word_laws }
-
-pub returns-then-mark-eq-BELOW : goal.returns-then-mark-eq-BELOW
-unfolding reading_of
-returns-then-mark-eq-BELOW c = record { answer = simp (ne_eqb _ _ c.if-mark-eq-MISSING.false, ne_eqb _ _ c.if-mark-eq-MEASURED.false, eq-eqb _ _ c.if-mark-eq-BELOW.true) c.below.ensures; laws = word_laws }
-
-pub returns : goal.returns
-unfolding reading_of
-returns c = record { answer = simp (ne_eqb _ _ c.if-mark-eq-MISSING.false, ne_eqb _ _ c.if-mark-eq-MEASURED.false, ne_eqb _ _ c.if-mark-eq-BELOW.false); laws = word_laws }
+pub float_from_bits-result-in-2 : goal.float_from_bits-result-in-2
+float_from_bits-result-in-2 c = not-nan-pattern 1 c.args.bits (sym c.if-is_limit_pattern.ensures)

@@ -1,17 +1,11 @@
 -- Below the exponent's field 100 nothing is left; from there on one shift and one halving round the exact value.
 use mathlib.Core.Path.{sym}
-use Prim.Native.Nat.{ℕ, ◌<◌, ◌+◌, ◌/◌, ◌^◌}
-use native.Mathlib.Nat.{div-le_self}
 use native.Mathlib.Omega.{arith}
 use lib.Dec.{lit≤}
 use Rattle.reading.specs.Amounts.{value_mass, per_milligram}
 use Rattle.reading.proofs.RangeLaws.{value-most}
 use Rattle.reading.proofs.NearestLaws.{low-exponent, high-exponent}
 use Rattle.reading.proofs.rounding.mass_of_pattern.Goals as goal
-
--- a shift makes nothing greater, so this holds at any scale of amounts
-shift_fits : (n s : ℕ) → n + 1 < 2 ^ 64 → n / 2 ^ s + 1 < 2 ^ 64
-shift_fits n s h = omega (arith, div-le_self n (2 ^ s))
 
 pub returns-then-exponent-lt100 : goal.returns-then-exponent-lt100
 unfolding value_mass
@@ -20,12 +14,6 @@ returns-then-exponent-lt100 c = sym (low-exponent per_milligram c.args.bits (val
 pub overflow_sub-twice : goal.overflow_sub-twice
 overflow_sub-twice c = omega (arith, value-most c.args.bits c.requires)
 
-pub overflow_shr-twice : goal.overflow_shr-twice
-overflow_shr-twice c = omega (arith, value-most c.args.bits c.requires)
-
-pub overflow_add-result : goal.overflow_add-result
-overflow_add-result c = record { fits = shift_fits _ _ (omega arith) }
-
 pub returns : goal.returns
 unfolding value_mass
-returns c = sym (high-exponent per_milligram c.args.bits (value-most c.args.bits c.requires) c.if-exponent-lt100.false)
+returns c = rw c.from.ensures (sym (high-exponent per_milligram c.args.bits (value-most c.args.bits c.requires) c.if-exponent-lt100.false))

@@ -1,6 +1,6 @@
 -- An f32 in range is the float of its own pattern, whose mass is the definition's.
-use mathlib.Core.Path.{sym, ap, ◌∙◌, subst}
-use lib.Dec.{T}
+use mathlib.Core.Path.{ap, ◌∙◌}
+use borrow.Author.Rules.{rules}
 use lib.Ieee.{binary32}
 use lib.Ieee.Bits.{of_bits-to_bits}
 use Rattle.reading.specs.Amounts.{value_mass}
@@ -11,7 +11,7 @@ pub float_to_bits-x : goal.float_to_bits-x
 float_to_bits-x c = not-nan 0 _ c.requires
 
 pub mass_of_pattern-requires : goal.mass_of_pattern-requires
-mass_of_pattern-requires c = of-pattern 0 _ (subst T (sym c.well_formed.0.1) tt) ∙ c.requires
+mass_of_pattern-requires c = of-pattern 0 _ (search rules) ∙ c.requires
 
 pub returns : goal.returns
-returns c = c.mass_of_pattern.ensures ∙ ap value_mass (of_bits-to_bits binary32 _ (subst T (sym c.well_formed.0.1) tt))
+returns c = c.mass_of_pattern.ensures ∙ ap value_mass (of_bits-to_bits binary32 _ (search rules))

@@ -1,25 +1,15 @@
--- The readings passed are readings; it is left at the first that is none.
-use mathlib.Core.Path.{◌≡◌, sym}
-use native.Mathlib.Omega.{arith}
-use Rattle.refusal.proofs.Testing.{failed, passed}
-use Rattle.record.specs.Record.{readings}
-use Rattle.record.proofs.AllBelow.{all_none, all_more, all-fails}
+-- Each pair is asked by the closure, and all ten are asked.
+use mathlib.Core.Path.{◌∙◌}
 use borrow.Author.Rules.{rules}
+use borrow.Author.Tests.{tests}
+use Rattle.std.proofs.lemmas.Iterator.{YieldsList-from_slice}
+use Rattle.std.proofs.lemmas.Iterator.Search.{all_from_yields_List}
+use Rattle.refusal.proofs.Outcomes.{ok-given}
+use Rattle.record.proofs.PairLaws.{is-pair, all-pairs}
 use Rattle.record.proofs.readings.are_readings.Goals as goal
-
-pub loop-i-init : goal.loop-i-init
-loop-i-init c = (search rules, all_none _)
-
-pub returns-then-not-is_reading_at : goal.returns-then-not-is_reading_at
-returns-then-not-is_reading_at c = sym (all-fails _ c.loop-i.i readings c.loop-i-test.true (failed c.is_reading_at.ensures c.if-not-is_reading_at.true-raw))
-
-pub loop-i-preserved : goal.loop-i-preserved
-loop-i-preserved c =
-    let loop = c.loop-i in
-    (search rules, all_more _ loop.i loop.invariant.1 (passed c.is_reading_at.ensures c.if-not-is_reading_at.false-raw))
 
 pub returns : goal.returns
 returns c =
-    let loop = c.loop-i in
-    let e : loop.i ≡ readings = omega arith in
-    sym (rw e at loop.invariant.1)
+    let s = c.args.words.now in
+    all_from_yields_List (is-pair s) _ _ c.all.result c.all.ensures.ran (YieldsList-from_slice c.pairs.result.now cc) (λ x b q k. search (rules, tests, ok-given))
+    ∙ all-pairs s c.pairs.result.now c.pairs.ensures.long c.pairs.ensures.each

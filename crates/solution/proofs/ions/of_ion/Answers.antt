@@ -8,14 +8,14 @@ charge-cation-requires c = search cation-fits
 pub charge-anion-requires : goal.charge-anion-requires
 charge-anion-requires c = search anion-fits
 
-pub plus-charge-requires : goal.plus-charge-requires
-plus-charge-requires c = search both-fit
+pub add-charge-requires : goal.add-charge-requires
+add-charge-requires c = search both-fit
 
 pub conducting-conductivity-requires : goal.conducting-conductivity-requires
 conducting-conductivity-requires c = search conducting-fits
 
-pub of_charge-strength-requires : goal.of_charge-strength-requires
-of_charge-strength-requires c = search strength-fits
+pub strength-strength-requires : goal.strength-strength-requires
+strength-strength-requires c = search strength-fits
 
 pub returns : goal.returns
 returns c = search adds

@@ -8,20 +8,18 @@ use Rattle.reading.specs.Analytes.{AmountRange}
 use Rattle.record.specs.Record.{readings, all_below}
 use Rattle.record.proofs.AllBelow.{all_none, all-next}
 use Rattle.solution.specs.ByValue.{are_small}
-use borrow.Author.Rules.{rules}
 use Rattle.solution.proofs.ranges.are_small.Invariants.{small_at}
 use Rattle.solution.proofs.ranges.are_small.Goals as goal
 
-pub loop-i-init : goal.loop-i-init
-loop-i-init c = (search rules, sym (all_none _))
+pub loop-analyte-init : goal.loop-analyte-init
+loop-analyte-init c = sym (all_none _)
 
-pub loop-i-preserved : goal.loop-i-preserved
-loop-i-preserved c =
-    let at = c.loop-i in
-    let analytes = c.args.analytes in
-    let most = ap (λ (r : AmountRange). leb r.most most_mass) c.range-range.ensures.answer in
-    (search rules, ap₂ (λ (a b : Bool). a && b) at.invariant.1 most ∙ sym (all-next (small_at analytes) at.i))
+pub loop-analyte-preserved : goal.loop-analyte-preserved
+loop-analyte-preserved c =
+    let at = c.loop-analyte in
+    let most = ap (λ (r : AmountRange). leb r.most most_mass) c.range.ensures.answer in
+    ap₂ (λ (a b : Bool). a && b) at.invariant most ∙ sym (all-next (small_at c.args.analytes.now) at.analyte-index)
 
 pub returns : goal.returns
 unfolding are_small
-returns c = let e : c.loop-i.i ≡ readings = omega arith in c.loop-i.invariant.1 ∙ ap (all_below (small_at c.args.analytes)) e
+returns c = let e : c.loop-analyte.analyte-index ≡ readings = omega arith in c.loop-analyte.invariant ∙ ap (all_below (small_at c.args.analytes.now)) e
