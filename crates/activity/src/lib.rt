@@ -2,7 +2,6 @@
 // ionic strength of a water to a bracket of 10^9 y², y being the activity of a monovalent ion by the Davies equation.
 #![tactic(auto)]
 
-mod adding;
 mod exponent;
 mod newton;
 mod root;

@@ -3,7 +3,6 @@
 // of amounts that a check takes it for.
 #![tactic(auto)]
 
-mod adding;
 mod amounts;
 mod marks;
 mod ranges;

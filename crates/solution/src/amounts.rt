@@ -7,6 +7,7 @@ ghost use Rattle.solution.specs.Ends.{is_greatest};
 ghost use Rattle.solution.specs.Steps.{Small, NitrogenOf};
 
 use crate::Nitrogen;
+use crate::adding::Summed;
 use reading::{Analyte, Mass, MassRange};
 use record::READINGS;
 
@@ -52,7 +53,7 @@ impl Amounts {
     {
         let nitrate = self.at(record::NITRATE);
         let ammonium = self.at(record::AMMONIUM);
-        let mineral = nitrate + ammonium;
+        let mineral = nitrate.plus(ammonium);
         let total = self.at(record::TOTAL_NITROGEN);
         Nitrogen { mineral, total }
     }

@@ -1,6 +1,6 @@
 // The table of the ions, and the sums of a record's eight. Only the table's columns turn a mass into a charge and a charge into
 // a conductivity or a strength, and only like is added to like.
-ghost use Rattle.std.specs.Prelude.{◌≡◌, ◌+◌, ◌*◌, ◌^◌, ◌≤◌, ◌<◌};
+ghost use Rattle.std.specs.Prelude.{◌≡◌, ◌*◌, ◌^◌, ◌≤◌, ◌<◌};
 ghost use Rattle.reading.specs.Amounts.{most_mass};
 ghost use Rattle.record.specs.Record.{ions, readings, all_below};
 ghost use Rattle.solution.specs.Ions.{charge_unit, strength_added, sum};
@@ -8,12 +8,12 @@ ghost use Rattle.solution.specs.ByValue.{there_at, amount_at};
 ghost use Rattle.solution.specs.Ends.{is_greatest};
 ghost use Rattle.solution.specs.Steps.{RowOf, Adds, IonSums, RatioOf};
 
+use crate::adding::Summed;
 use crate::amounts::Amounts;
 use crate::{Charge, Conductivity, SodiumChloride};
 use activity::IonicStrength;
 use reading::{Analyte, Mass};
 use record::IONS;
-use std::ops::Add;
 
 // A row of the table.
 #[derive(Clone, Copy)]
@@ -29,7 +29,7 @@ struct Row {
 }
 
 // The ions' rows, in the order of a record's readings.
-const TABLE: [Row; IONS] = [
+static TABLE: [Row; IONS] = [
     Row {
         cation: 7139,
         anion: 0,
@@ -127,30 +127,6 @@ impl Charge {
     }
 }
 
-impl Add for Charge {
-    type Output = Charge;
-
-    ghost can_add = { λ a b. a.0 + b.0 < 2 ^ 64 };
-
-    ghost add_gives = { λ a b r. r.0 ≡ a.0 + b.0 };
-
-    fn add(self, other: Charge) -> Charge {
-        Charge(self.0 + other.0)
-    }
-}
-
-impl Add for Conductivity {
-    type Output = Conductivity;
-
-    ghost can_add = { λ a b. a.0 + b.0 < 2 ^ 64 };
-
-    ghost add_gives = { λ a b r. r.0 ≡ a.0 + b.0 };
-
-    fn add(self, other: Conductivity) -> Conductivity {
-        Conductivity(self.0 + other.0)
-    }
-}
-
 // The charge of an amount, by the entry of a column.
 fn charge(factor: u64, m: Mass) -> Charge
     requires { charge_unit * (factor * m.0) < 2 ^ 64 }
@@ -175,7 +151,7 @@ fn of_ion(ion: usize, m: Mass) -> Ion
     let row = row_at(ion);
     let cation = charge(row.cation, m);
     let anion = charge(row.anion, m);
-    let charge = cation + anion;
+    let charge = cation.plus(anion);
     let conductivity = charge.conducting(row.conductance);
     let strength = charge.strength(row.number);
     Ion {
@@ -207,9 +183,9 @@ impl Amounts {
         let mut conductivity = Conductivity(0);
         for i in 0..IONS {
             let ion = of_ion(i, self.at(i));
-            cations = cations + ion.cation;
-            anions = anions + ion.anion;
-            conductivity = conductivity + ion.conductivity;
+            cations = cations.plus(ion.cation);
+            anions = anions.plus(ion.anion);
+            conductivity = conductivity.plus(ion.conductivity);
         }
         Eight {
             cations,
@@ -225,7 +201,7 @@ impl Amounts {
         let mut strength = IonicStrength(0);
         for i in 0..IONS {
             let ion = of_ion(i, self.at(i));
-            strength = strength + ion.strength;
+            strength = strength.plus(ion.strength);
         }
         strength
     }

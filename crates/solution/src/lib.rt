@@ -2,6 +2,7 @@
 // the conductivities and the ionic strength of the table's ten rows, added up to the sums that the checks compare.
 #![tactic(auto)]
 
+mod adding;
 mod amounts;
 mod both_ends;
 mod ions;

@@ -8,6 +8,7 @@ ghost use Rattle.solution.specs.ByValue.{sums_held, no_sums};
 ghost use Rattle.solution.specs.Ends.{is_greatest};
 ghost use Rattle.solution.specs.Steps.{Ranged};
 
+use crate::adding::Summed;
 use crate::amounts::{Amounts, End};
 use crate::{Charge, Conductivity, Nitrogen, SodiumChloride, Sums, ions};
 use activity::IonicStrength;
@@ -31,8 +32,8 @@ pub fn sums(own: TestedRecord, end: End, hydrogen: Charge) -> Sums
     let measured = measured_conductivity(own.conductivity);
     let alkalinity = alkalinity_charge(own.alkalinity);
     let eight = amounts.eight();
-    let cations = hydrogen + eight.cations;
-    let anions = alkalinity + eight.anions;
+    let cations = hydrogen.plus(eight.cations);
+    let anions = alkalinity.plus(eight.anions);
     let calculated = calculated(hydrogen, alkalinity, eight.conductivity);
     let of_ions = amounts.strength();
     let strength = strength_of(hydrogen, alkalinity, of_ions);
@@ -88,8 +89,10 @@ fn calculated(hydrogen: Charge, alkalinity: Charge, eight: Conductivity) -> Cond
     requires { hydrogen_conductance * hydrogen.0 + (alkalinity_conductance * alkalinity.0 + eight.0) < 2 ^ 64 }
     ensures { result.0 ≡ hydrogen_conductance * hydrogen.0 + (alkalinity_conductance * alkalinity.0 + eight.0) }
 {
-    hydrogen.conducting(ions::HYDROGEN_CONDUCTANCE)
-        + (alkalinity.conducting(ions::ALKALINITY_CONDUCTANCE) + eight)
+    let others = alkalinity
+        .conducting(ions::ALKALINITY_CONDUCTANCE)
+        .plus(eight);
+    hydrogen.conducting(ions::HYDROGEN_CONDUCTANCE).plus(others)
 }
 
 // The strength of hydrogen, alkalinity and the eight ions.
@@ -97,6 +100,8 @@ fn strength_of(hydrogen: Charge, alkalinity: Charge, eight: IonicStrength) -> Io
     requires { hydrogen_charge_number * hydrogen.0 + (alkalinity_charge_number * alkalinity.0 + eight.0) < 2 ^ 64 }
     ensures { result.0 ≡ hydrogen_charge_number * hydrogen.0 + (alkalinity_charge_number * alkalinity.0 + eight.0) }
 {
-    hydrogen.strength(ions::HYDROGEN_CHARGE_NUMBER)
-        + (alkalinity.strength(ions::ALKALINITY_CHARGE_NUMBER) + eight)
+    let others = alkalinity
+        .strength(ions::ALKALINITY_CHARGE_NUMBER)
+        .plus(eight);
+    hydrogen.strength(ions::HYDROGEN_CHARGE_NUMBER).plus(others)
 }

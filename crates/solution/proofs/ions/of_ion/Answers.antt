@@ -8,8 +8,8 @@ charge-cation-requires c = search cation-fits
 pub charge-anion-requires : goal.charge-anion-requires
 charge-anion-requires c = search anion-fits
 
-pub add-charge-requires : goal.add-charge-requires
-add-charge-requires c = search both-fit
+pub plus-charge-requires : goal.plus-charge-requires
+plus-charge-requires c = search both-fit
 
 pub conducting-conductivity-requires : goal.conducting-conductivity-requires
 conducting-conductivity-requires c = search conducting-fits

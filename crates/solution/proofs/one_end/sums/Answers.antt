@@ -3,11 +3,11 @@ use Rattle.solution.proofs.MadeLaws.{cations-fit, anions-fit, calculated-fits, s
 use Rattle.solution.specs.Ends.{is_greatest}
 use Rattle.solution.proofs.one_end.sums.Goals as goal
 
-pub add-cations-requires : goal.add-cations-requires
-add-cations-requires c = search cations-fit
+pub plus-cations-requires : goal.plus-cations-requires
+plus-cations-requires c = search cations-fit
 
-pub add-anions-requires : goal.add-anions-requires
-add-anions-requires c = anions-fit _ (is_greatest c.args.end) _ c.requires c.eight-eight.ensures c.alkalinity_charge-alkalinity.ensures
+pub plus-anions-requires : goal.plus-anions-requires
+plus-anions-requires c = anions-fit _ (is_greatest c.args.end) _ c.requires c.eight-eight.ensures c.alkalinity_charge-alkalinity.ensures
 
 pub calculated-calculated-requires : goal.calculated-calculated-requires
 calculated-calculated-requires c = search calculated-fits
@@ -18,5 +18,5 @@ strength_of-strength-requires c = search strength-fits
 -- before what the calls require, so that a wrong sum is told first
 pub returns : goal.returns
 returns c =
-    made _ (is_greatest c.args.end) _ c.requires c.eight-eight.ensures c.alkalinity_charge-alkalinity.ensures c.add-cations.ensures c.add-anions.ensures
+    made _ (is_greatest c.args.end) _ c.requires c.eight-eight.ensures c.alkalinity_charge-alkalinity.ensures c.plus-cations.ensures c.plus-anions.ensures
     c.calculated-calculated.ensures c.measured_conductivity-measured.ensures c.strength-of_ions.ensures c.strength_of-strength.ensures c.sodium_chloride-ratio.ensures c.nitrogen-nitrogen.ensures

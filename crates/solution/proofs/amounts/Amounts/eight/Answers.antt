@@ -18,14 +18,14 @@ loop-i-init c = (refl, refl, refl)
 pub of_ion-ion-requires : goal.of_ion-ion-requires
 of_ion-ion-requires c = (omega arith, search next_small)
 
-pub add-cations-requires : goal.add-cations-requires
-add-cations-requires c = search cations-next
+pub plus-cations-requires : goal.plus-cations-requires
+plus-cations-requires c = search cations-next
 
-pub add-anions-requires : goal.add-anions-requires
-add-anions-requires c = search anions-next
+pub plus-anions-requires : goal.plus-anions-requires
+plus-anions-requires c = search anions-next
 
-pub add-conductivity-requires : goal.add-conductivity-requires
-add-conductivity-requires c = search conductivity-next
+pub plus-conductivity-requires : goal.plus-conductivity-requires
+plus-conductivity-requires c = search conductivity-next
 
 pub loop-i-preserved : goal.loop-i-preserved
 loop-i-preserved c =
@@ -34,9 +34,9 @@ loop-i-preserved c =
     let a = amount_at (is_greatest own.end) own.analytes in
     let i = at.i in
     let adds : Adds i (a i) c.of_ion-ion.result = rw c.at.ensures at c.of_ion-ion.ensures in (
-      c.add-cations.ensures ∙ ap₂ (λ (x y : ℕ). x + y) at.invariant.0 adds.cation ∙ sym (sum-next (λ k. cation_charge k * a k) i),
-      c.add-anions.ensures ∙ ap₂ (λ (x y : ℕ). x + y) at.invariant.1 adds.anion ∙ sym (sum-next (λ k. anion_charge k * a k) i),
-      c.add-conductivity.ensures ∙ ap₂ (λ (x y : ℕ). x + y) at.invariant.2 adds.conductivity ∙ sym (sum-next (λ k. conducted k * a k) i),
+      c.plus-cations.ensures ∙ ap₂ (λ (x y : ℕ). x + y) at.invariant.0 adds.cation ∙ sym (sum-next (λ k. cation_charge k * a k) i),
+      c.plus-anions.ensures ∙ ap₂ (λ (x y : ℕ). x + y) at.invariant.1 adds.anion ∙ sym (sum-next (λ k. anion_charge k * a k) i),
+      c.plus-conductivity.ensures ∙ ap₂ (λ (x y : ℕ). x + y) at.invariant.2 adds.conductivity ∙ sym (sum-next (λ k. conducted k * a k) i),
     )
 
 pub returns : goal.returns

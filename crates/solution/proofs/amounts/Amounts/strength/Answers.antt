@@ -18,8 +18,8 @@ loop-i-init c = refl
 pub of_ion-ion-requires : goal.of_ion-ion-requires
 of_ion-ion-requires c = (omega arith, search next_small)
 
-pub add-strength-requires : goal.add-strength-requires
-add-strength-requires c = search strength-next
+pub plus-strength-requires : goal.plus-strength-requires
+plus-strength-requires c = search strength-next
 
 pub loop-i-preserved : goal.loop-i-preserved
 loop-i-preserved c =
@@ -27,7 +27,7 @@ loop-i-preserved c =
     let own = c.args.self.now in
     let a = amount_at (is_greatest own.end) own.analytes in
     let adds : Adds at.i (a at.i) c.of_ion-ion.result = rw c.at.ensures at c.of_ion-ion.ensures in
-    c.add-strength.ensures ∙ ap₂ (λ (x y : ℕ). x + y) at.invariant adds.strength ∙ sym (sum-next (λ k. strength_added k * a k) at.i)
+    c.plus-strength.ensures ∙ ap₂ (λ (x y : ℕ). x + y) at.invariant adds.strength ∙ sym (sum-next (λ k. strength_added k * a k) at.i)
 
 pub returns : goal.returns
 returns c =
