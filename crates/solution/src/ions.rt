@@ -28,7 +28,8 @@ struct Row {
     number: u64,
 }
 
-// The ions' rows, in the order of a record's readings.
+// The ions' rows, in the order of a record's readings. A static: a const of structs is put together anew on the stack wherever it
+// is read, by which a record judged took twice as long.
 static TABLE: [Row; IONS] = [
     Row {
         cation: 7139,
