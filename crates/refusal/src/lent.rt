@@ -16,6 +16,9 @@ pub fn lend<T: Copy>(made: &[T], out: &mut [T]) -> Result<usize, Refusal>
     if out.len() < size {
         return Err(Refusal::OutputLength);
     }
-    out[..size].copy_from_slice(made);
+    // One by one: an answer of a few words goes straight to where it is lent, and is not put together first.
+    for (i, place) in out[..size].iter_mut().enumerate() {
+        *place = made[i];
+    }
     Ok(size)
 }

@@ -45,5 +45,9 @@ pub fn place(words: &[u32], into: &mut [u32], at: usize)
 {
     let at = at.min(into.len());
     let count = words.len().min(into.len() - at);
-    into[at..at + count].copy_from_slice(&words[..count]);
+    // Word by word: the library's `copy_from_slice` asks `memmove` of whoever links these words to a program in C, where the
+    // compiler can't tell that the two slices are apart.
+    for (i, word) in into[at..at + count].iter_mut().enumerate() {
+        *word = words[i];
+    }
 }
