@@ -1,26 +1,41 @@
--- The sums of the definition are the library's, and how great they are for values that are accepted.
-use mathlib.Core.Path.{◌≡◌, refl}
+-- The sums of a loop through the values: with those of the values from place i on they make the whole sums; and how great these are
+-- for values that are accepted.
+use mathlib.Core.Path.{◌≡◌, ap}
 use mathlib.Core.Bool.{true}
 use mathlib.Core.List.{List, [], ◌∷◌}
-use Prim.Native.Nat.{ℕ, ◌*◌, ◌≤◌}
+use Prim.Native.Nat.{ℕ, ◌+◌, ◌*◌, ◌≤◌, ◌<◌}
 use native.Mathlib.Nat.{mul-le-mul}
+use native.Mathlib.Numerals.{add-one}
 use native.Mathlib.Omega.{arith}
-use lib.ListN.{length}
-use Rattle.std.specs.List.{sum_by}
-use Rattle.std.proofs.lemmas.List.Sums.{sum_by-cons}
+use lib.ListN.{length, get_or, drop, drop_of_length-le}
+use lib.Seq.{drop-cons}
 use Rattle.chart.specs.Values.{all_values, greatest_value}
 use Rattle.chart.specs.Setups.{square, sum_of, squares_of}
 use Rattle.chart.proofs.ValueLaws.{values-each}
 
-pub sum_is : (l : List ℕ) → sum_by (λ v. v) l ≡ sum_of l
-unfolding sum_of
-sum_is [] = refl
-sum_is (v ∷ l) = rw (sum_by-cons, sum_is l)
+-- the invariant: s and q after i turns
+pub record Summed (a : List ℕ) (i s q : ℕ) : Type 0 where
+  pub sum : s + sum_of (drop i a) ≡ sum_of a
+  pub squares : q + squares_of (drop i a) ≡ squares_of a
 
-pub squares_is : (l : List ℕ) → sum_by (λ v. v * v) l ≡ squares_of l
-unfolding squares_of
-squares_is [] = refl
-squares_is (v ∷ l) = rw (sum_by-cons, squares_is l)
+pub none : (a : List ℕ) → Summed a 0 0 0
+none a = record { sum = omega arith; squares = omega arith }
+
+module _ {a : List ℕ} {i s q : ℕ} (sums : Summed a i s q) where
+  pub one_more : {v : ℕ} → i < length a → v ≡ get_or a i 0 → Summed a (i + 1) (s + v) (q + v * v)
+  unfolding sum_of squares_of
+  one_more h e =
+      let from : drop i a ≡ get_or a i 0 ∷ drop (i + 1) a = rw (add-one, drop-cons a i 0 h) in
+      record {
+        sum = omega (arith, sums.sum, e, ap sum_of from);
+        squares = omega (arith, sums.squares, ap square e, ap squares_of from);
+      }
+
+  pub whole : length a ≤ i → (s ≡ sum_of a) × (q ≡ squares_of a)
+  unfolding sum_of squares_of
+  whole h =
+      let rest = drop_of_length-le a h in
+      (omega (arith, sums.sum, ap sum_of rest), omega (arith, sums.squares, ap squares_of rest))
 
 pub sum-most : (l : List ℕ) → all_values l ≡ true → sum_of l ≤ length l * greatest_value
 unfolding sum_of

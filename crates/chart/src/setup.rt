@@ -38,8 +38,14 @@ impl Setup {
         ensures { result ≡ setup_of values.now }
     {
         let n = values.len() as u64;
-        let sum: u64 = values.iter().map(|&v| u64::from(v)).sum();
-        let squares: u64 = values.iter().map(|&v| u64::from(v) * u64::from(v)).sum();
+        let mut sum: u64 = 0;
+        let mut squares: u64 = 0;
+        // Both in one pass: by a chain for each, a chart of 64 setup values and no later one took a quarter more.
+        for &value in values {
+            let v = u64::from(value);
+            sum += v;
+            squares += v * v;
+        }
         Setup {
             n,
             sum,
