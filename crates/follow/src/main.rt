@@ -32,7 +32,8 @@ fn offer_next(
     let after = offered.docket;
     let state = after.state;
     let count = after.count;
-    println!(rt; "{state} {count}")?;
+    print!(rt; "{state} ")?;
+    println!(rt; "{count}")?;
     Ok((got.words == record::WORDS).then_some(after))
 }
 

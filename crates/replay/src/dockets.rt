@@ -11,7 +11,8 @@ fn print_offer(rt: &impl Print, offered: Offered) -> Result<(), Stop> {
     };
     let state = offered.docket.state.number();
     let count = offered.docket.count;
-    print!(rt; " {answer} {state} {count}")?;
+    print!(rt; " {answer} {state}")?;
+    print!(rt; " {count}")?;
     Ok(())
 }
 

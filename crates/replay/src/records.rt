@@ -5,7 +5,8 @@ use crate::stop::Stop;
 // Any words: the verdicts of the record that they are.
 pub fn judge(rt: &impl Print, words: &[u32]) -> Result<(), Stop> {
     let [balance, conductivity, ratio, nitrogen] = judge::judge(words)?.numbers();
-    println!(rt; "judged {balance} {conductivity} {ratio} {nitrogen}")?;
+    print!(rt; "judged {balance} {conductivity}")?;
+    println!(rt; " {ratio} {nitrogen}")?;
     Ok(())
 }
 
