@@ -1,4 +1,5 @@
 -- Every sum is that of the fields at that end, and none comes near 64 bits.
+use native.Mathlib.Omega.{arith}
 use Rattle.solution.proofs.MadeLaws.{cations-fit, anions-fit, calculated-fits, strength-fits, made}
 use Rattle.solution.specs.Ends.{is_greatest}
 use Rattle.solution.proofs.one_end.sums.Goals as goal
@@ -7,7 +8,7 @@ pub plus-cations-requires : goal.plus-cations-requires
 plus-cations-requires c = search cations-fit
 
 pub plus-anions-requires : goal.plus-anions-requires
-plus-anions-requires c = anions-fit _ (is_greatest c.args.end) _ c.requires c.eight-eight.ensures c.alkalinity_charge-alkalinity.ensures
+plus-anions-requires c = omega (arith, anions-fit _ (is_greatest c.args.end) _ c.requires c.eight-eight.ensures c.alkalinity_charge-alkalinity.ensures)
 
 pub calculated-calculated-requires : goal.calculated-calculated-requires
 calculated-calculated-requires c = search calculated-fits

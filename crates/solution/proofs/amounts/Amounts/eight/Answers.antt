@@ -1,6 +1,6 @@
 -- The loop's invariant: each sum is that of the ions passed, and no sum of so many ions is above that of all at their greatest.
 use mathlib.Core.Path.{◌≡◌, refl, sym, ap, ap₂, ◌∙◌}
-use Prim.Native.Nat.{ℕ, ◌+◌, ◌*◌}
+use Prim.Native.Nat.{ℕ, ◌+◌, ◌*◌, ◌^◌, ◌<◌}
 use native.Mathlib.Omega.{arith}
 use Rattle.record.specs.Record.{ions}
 use Rattle.solution.specs.Ions.{cation_charge, anion_charge, conducted, sum}
@@ -19,13 +19,13 @@ pub of_ion-ion-requires : goal.of_ion-ion-requires
 of_ion-ion-requires c = (omega arith, search next_small)
 
 pub plus-cations-requires : goal.plus-cations-requires
-plus-cations-requires c = search cations-next
+plus-cations-requires c = let fits : c.loop-i.cations.0 + c.of_ion-ion.result.cation.0 < 2 ^ 64 = search cations-next in omega (arith, fits)
 
 pub plus-anions-requires : goal.plus-anions-requires
-plus-anions-requires c = search anions-next
+plus-anions-requires c = let fits : c.loop-i.anions.0 + c.of_ion-ion.result.anion.0 < 2 ^ 64 = search anions-next in omega (arith, fits)
 
 pub plus-conductivity-requires : goal.plus-conductivity-requires
-plus-conductivity-requires c = search conductivity-next
+plus-conductivity-requires c = let fits : c.loop-i.conductivity.0 + c.of_ion-ion.result.conductivity.0 < 2 ^ 64 = search conductivity-next in omega (arith, fits)
 
 pub loop-i-preserved : goal.loop-i-preserved
 loop-i-preserved c =

@@ -1,6 +1,6 @@
 -- The loop's invariant: the strength is that of the ions passed, and none of so many ions is above that of all at their greatest.
 use mathlib.Core.Path.{◌≡◌, refl, sym, ap, ap₂, ◌∙◌}
-use Prim.Native.Nat.{ℕ, ◌+◌, ◌*◌}
+use Prim.Native.Nat.{ℕ, ◌+◌, ◌*◌, ◌^◌, ◌<◌}
 use native.Mathlib.Omega.{arith}
 use Rattle.record.specs.Record.{ions}
 use Rattle.solution.specs.Ions.{strength_added, sum}
@@ -19,7 +19,7 @@ pub of_ion-ion-requires : goal.of_ion-ion-requires
 of_ion-ion-requires c = (omega arith, search next_small)
 
 pub plus-strength-requires : goal.plus-strength-requires
-plus-strength-requires c = search strength-next
+plus-strength-requires c = let fits : c.loop-i.strength.0 + c.of_ion-ion.result.strength.0 < 2 ^ 64 = search strength-next in omega (arith, fits)
 
 pub loop-i-preserved : goal.loop-i-preserved
 loop-i-preserved c =
