@@ -1,5 +1,5 @@
 -- Each byte is one of those that std makes of its word.
-use Rattle.std.proofs.Common.{ℕ, rules, arith, length-take}
+use Rattle.std.proofs.Common.{ℕ, arith, length-take}
 use Rattle.words.specs.Words.{bytes_of}
 use Rattle.words.proofs.PackedLaws.{length-bytes, byte-at, words_back}
 use Rattle.words.proofs.PlacingLaws.{count, put-more, put_all}
@@ -10,8 +10,8 @@ loop-i-preserved c =
     let words = c.args.words.now in
     let i = c.loop-i.i in
     let long = length-bytes words in
-    put-more (bytes_of words) _ _ (omega arith) (omega (arith, length-take {A = ℕ})) c.loop-i.invariant
-    (byte-at words i (search rules) (omega (arith, length-take {A = ℕ})))
+    let byte = byte-at words i c.to_le_bytes.ensures (omega (arith, length-take {A = ℕ})) in
+    put-more (bytes_of words) _ _ (omega arith) (omega (arith, length-take {A = ℕ})) c.loop-i.invariant (grind (arith, byte))
 
 pub returns : goal.returns
 returns c =
