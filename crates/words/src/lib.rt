@@ -45,8 +45,8 @@ pub fn place(words: &[u32], into: &mut [u32], at: usize)
 {
     let at = at.min(into.len());
     let count = words.len().min(into.len() - at);
-    // Word by word: the library's `copy_from_slice` asks `memmove` of whoever links these words to a program in C, where the
-    // compiler can't tell that the two slices are apart.
+    // Word by word: where the compiler can't tell that the two slices are apart, `copy_from_slice` becomes a call of `memmove`,
+    // which the firmware would have to bring.
     for (i, word) in into[at..at + count].iter_mut().enumerate() {
         *word = words[i];
     }
