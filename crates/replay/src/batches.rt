@@ -21,6 +21,8 @@ pub fn test(rt: &impl Print, words: &[u32]) -> Result<(), Stop> {
 }
 
 // How many bytes to lend, how many bytes are the input, and words that hold them: the listing's text.
+// A call of its own: within `main` its buffers, a whole batch and its text, would be on the stack under every other case.
+#[inline(never)]
 pub fn list(rt: &impl Print, words: &[u32]) -> Result<(), Stop> {
     let ([room, count], words) = words.split_first_chunk::<2>().ok_or(Stop::Malformed)?;
     let mut text_space = [lent::OLD_BYTE; lent::MOST_BYTES];

@@ -17,8 +17,6 @@ pub fn join(rt: &impl Print, words: &[u32]) -> Result<(), Stop> {
 }
 
 // How many bytes to lend, how many bytes are the first file and how many the second, and words that hold them: the joined file.
-// A call of its own: put into the one that picks a case's call, its buffers and those of the others would be on the stack at once.
-#[inline(never)]
 pub fn join_bytes(rt: &impl Print, words: &[u32]) -> Result<(), Stop> {
     let ([room, first, second], words) = words.split_first_chunk::<3>().ok_or(Stop::Malformed)?;
     let mut out_space = [lent::OLD_BYTE; lent::MOST_BYTES];
