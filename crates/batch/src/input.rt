@@ -12,6 +12,7 @@ pub const MOST_WORDS: usize = (1 + MOST_CHARTS * MOST_CHART) + (1 + MOST_SAMPLES
 // The most bytes that hold a batch.
 pub const MOST_BYTES: usize = WORD_BYTES * MOST_WORDS;
 
+#[tactic(auto, unfolding(crate::specs::Input::is_input))]
 pub fn is_input(bytes: &[u8]) -> bool
     ensures { result ≡ is_input bytes.now }
 {

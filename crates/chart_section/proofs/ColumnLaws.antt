@@ -12,8 +12,9 @@ use Rattle.std.specs.Prelude.{Result, Ok, Err}
 use Rattle.refusal.specs.Outcome.Outcome.{given, refused}
 use Rattle.refusal.specs.Numbers.{number_of}
 use Rattle.refusal.specs.declared.Refusal.{Refusal}
+use Rattle.refusal.specs.declared.Refusal.TheVariants as refusal
 use Rattle.words.specs.FromFront.{Read, taken, many}
-use Rattle.words.proofs.ManyLaws.{many-none, many-refused, many-next, section-begins}
+use Rattle.words.proofs.ManyLaws.{many-none, many-refused, many-next, section-over, section-begins}
 use Rattle.chart_section.specs.declared.first.ChartRead.{ChartRead}
 use Rattle.chart_section.specs.declared.columns.ChartColumns.{ChartColumns}
 use Rattle.chart_section.specs.declared.columns.ChartSignal.{ChartSignal}
@@ -46,6 +47,10 @@ pub record Begun (s : List ℕ) (count i : ℕ) (rest : List ℕ) (charts : List
   pub whole : charts_of s ≡ many chart_after (count - i) before rest
   pub elements_held : elements_in charts ≡ column (elements_of before)
   pub signals_held : signals_held charts ≡ column (signals_in before)
+
+-- a count over the most refuses them all
+pub charts_over : (count : ℕ) (rest : List ℕ) → most_charts < count → charts_of (count ∷ rest) ≡ refused (number_of refusal.Count)
+charts_over count rest h = section-over chart_after most_charts (count ∷ rest) (omega arith) h
 
 abbrev pub no_charts : List ChartSignal
 no_charts = replicate most_charts (record { element = 0; signal = 0 })

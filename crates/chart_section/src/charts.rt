@@ -26,6 +26,7 @@ pub fn refused(why: Refusal) -> ChartColumns
 }
 
 // Reads as many charts as the section's count says, or says why it is refused.
+#[tactic(auto, using(crate::proofs::ColumnLaws::charts_over))]
 pub fn read_all(words: &[u32]) -> Result<ChartColumns, Refusal>
     ensures { SectionSaid result words.now }
 {

@@ -1,9 +1,10 @@
 -- The words of the reading that the analysis becomes are lent, or a refusal stands.
 use mathlib.Core.Path.{◌≡◌, sym, ap, ◌∙◌}
+use native.Mathlib.Omega.{arith}
 use Rattle.refusal.specs.Outcome.{outcome_of}
 use Rattle.refusal.specs.Outcome.Outcome.{given}
 use Rattle.analyser.specs.Analyses.{pair_of, reading_words, analysed_words}
-use Rattle.analyser.proofs.CallLaws.{same-fitting, refusing-fitting}
+use Rattle.analyser.proofs.CallLaws.{refusing-fitting}
 use Rattle.analyser.proofs.reading_words.lend_reading.Goals as goal
 
 pub returns-in_err-reading : goal.returns-in_err-reading
@@ -29,5 +30,4 @@ returns c =
     let a = c.args in
     let e : analysed_words a.analysed.value a.analysed.limit ≡ given (pair_of c.in_ok-words.words) =
     simp (sym c.to_reading.ensures ∙ ap outcome_of c.in_ok-reading.was, sym c.words.ensures.answer ∙ ap outcome_of c.in_ok-words.was) in
-    let said = same-fitting a.lent.now e (c.lend.ensures.answer, c.lend.ensures.lent) in
-    record { answer = said.0; after = said.1 }
+    record { answer = grind (arith, e, c.lend.ensures.answer); after = grind (arith, e, c.lend.ensures.lent) }

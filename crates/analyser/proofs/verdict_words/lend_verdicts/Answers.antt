@@ -1,9 +1,10 @@
 -- The numbers of the verdicts are lent, or the record's refusal stands.
 use mathlib.Core.Path.{◌≡◌, sym, ap, ◌∙◌}
+use native.Mathlib.Omega.{arith}
 use Rattle.refusal.specs.Outcome.Outcome.{given}
 use Rattle.judge.specs.Judgements.{judgement_outcome}
 use Rattle.analyser.specs.Analyses.{judged_words}
-use Rattle.analyser.proofs.CallLaws.{same-fitting, refusing-fitting}
+use Rattle.analyser.proofs.CallLaws.{refusing-fitting}
 use Rattle.analyser.proofs.verdict_words.lend_verdicts.Goals as goal
 
 pub returns-in_err-four : goal.returns-in_err-four
@@ -18,5 +19,4 @@ returns c =
     let a = c.args in
     let e : judged_words a.words.now ≡ given c.numbers-answer.result =
     simp (sym c.judge.ensures.answer ∙ ap judgement_outcome c.in_ok-four.was) (ap given (sym c.numbers-answer.ensures)) in
-    let said = same-fitting a.lent.now e (c.lend.ensures.answer, c.lend.ensures.lent) in
-    record { answer = said.0; after = said.1 }
+    record { answer = grind (arith, e, c.lend.ensures.answer); after = grind (arith, e, c.lend.ensures.lent) }

@@ -1,8 +1,7 @@
 -- The charts that are left give the whole: those before the index are read, and their columns are held.
-use mathlib.Core.List.{◌∷◌}
 use native.Mathlib.Omega.{arith}
 use Rattle.std.proofs.lemmas.Result.{err_from_is_err_and}
-use Rattle.words.proofs.ManyLaws.{section-short, section-over}
+use Rattle.words.proofs.ManyLaws.{section-short}
 use Rattle.chart_section.specs.ChartSection.{most_charts}
 use Rattle.chart_section.proofs.ColumnLaws.{chart_after, charts-begun, charts-refused, charts-next, charts-taken, answer-whole}
 use Rattle.chart_section.proofs.StandLaws.{charts-within}
@@ -11,14 +10,8 @@ use Rattle.chart_section.proofs.charts.read_all.Goals as goal
 pub returns-in_default : goal.returns-in_default
 returns-in_default c = section-short chart_after most_charts _ (omega (arith, c.in_default.ensures.cases))
 
-pub returns-then-count-gt-MOST_CHARTS : goal.returns-then-count-gt-MOST_CHARTS
-returns-then-count-gt-MOST_CHARTS c =
-    let count = c.in-Some.field-0-0.now in
-    let rest = c.in-Some.rest.now in
-    rw c.in-Some.ensures.cases.0 (section-over chart_after most_charts (count ∷ rest) (omega arith) c.if-count-gt-MOST_CHARTS.true)
-
 pub loop-i-init : goal.loop-i-init
-loop-i-init c = charts-begun _ _ _ c.in-Some.ensures.cases.0 c.if-count-gt-MOST_CHARTS.false
+loop-i-init c = charts-begun _ _ _ c.in-Some.ensures.cases.0 (omega arith)
 
 pub returns-in_err-read : goal.returns-in_err-read
 returns-in_err-read c =
