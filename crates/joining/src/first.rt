@@ -26,6 +26,7 @@ fn join_one(chart: Chart, second: &[u32], buffer: &mut Buffer) -> Result<(), Ref
 }
 
 // Joins two charts of one key: their setup values, 14, then the later ones, 15.
+#[tactic(auto, using(crate::proofs::StepLaws::same_as))]
 fn join_both(chart: Chart, other: Chart, buffer: &mut Buffer) -> Result<(), Refusal>
     requires { buffer.old.count < most_charts }
     ensures { ChartSaid result (terms_of chart.entry) (Match.both (terms_of other.entry)) buffer.old buffer.new }

@@ -1,8 +1,8 @@
 -- The ways of a tested record through the code: its verdicts by the checks, and its answer by how its own tests ended.
-use mathlib.Core.Path.{◌≡◌, sym, ap, ◌∙◌}
+use mathlib.Core.Path.{◌≡◌, refl, sym, ap, ◌∙◌}
 use mathlib.Core.List.{List}
 use Prim.Native.Nat.{ℕ}
-use Rattle.refusal.specs.Outcome.{outcome_of}
+use Rattle.refusal.specs.Outcome.{outcome_of, outcome_by}
 use Rattle.refusal.specs.Outcome.Outcome.{given, refused}
 use Rattle.refusal.specs.Numbers.{number_of}
 use Rattle.refusal.specs.declared.Refusal.{Refusal}
@@ -46,3 +46,8 @@ module _ (s : List ℕ) {r : Result ℕ Refusal} (told : outcome_of r ≡ accept
   pub refuses : {why : Refusal} → r ≡ Err why → refused (number_of why) ≡ acceptance_of s
   unfolding acceptance_of
   refuses {why} e = sym (refused-for-all s _ (number_of why) (sym told ∙ ap outcome_of e) (given tt))
+
+-- whichever way they ended
+pub acceptance_told : (s : List ℕ) (r : Result ℕ Refusal) → outcome_of r ≡ accepted_of s → outcome_by (λ (floor : ℕ). tt) r ≡ acceptance_of s
+acceptance_told s (Ok floor) told = accepts s told refl
+acceptance_told s (Err why) told = refuses s told refl

@@ -17,6 +17,7 @@ use Rattle.reading.specs.Finer.{FloatAtMost, Finer, NarrowerRange, FinerLaws}
 use Rattle.reading.proofs.RangeLaws.{limit-value}
 use Rattle.reading.proofs.NearestLaws.{nearest-rises}
 use Rattle.reading.proofs.AnalyteLaws.{measured-mass}
+use Rattle.reading.proofs.AmountRangeLaws.{amount-range-laws}
 
 -- a greater value has no smaller amount
 mass-rises : (x y : Float) → is_value x ≡ true → is_value y ≡ true → FloatAtMost y x → mass_of (Measured y) ≤ mass_of (Measured x)
@@ -45,3 +46,6 @@ narrower old new h k (Finer.inside x y m) = record { least = omega (arith, m.0);
 
 pub finer-laws : FinerLaws
 finer-laws = record { there = there; narrower = narrower; lower-limit = lower-limit; at-most-limit = at-most-limit }
+
+-- what every range promises, whatever its reading
+pub ruleset range_promises = (amount-range-laws, finer-laws)

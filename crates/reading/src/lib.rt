@@ -152,6 +152,7 @@ impl Analyte {
 
     // A reading below its limit stands for every amount up to its limit's, any other for its one amount. The last promise is of
     // a finer reading's range (document 02 (vii)).
+    #[tactic(auto, using(crate::proofs::FinerProofs::range_promises), unfolding(crate::specs::Analytes::range_of))]
     pub fn range(self) -> MassRange
         ensures answer { range_in result ≡ range_of self }
         ensures laws { AmountRangeLaws }

@@ -1,5 +1,7 @@
 -- `Testing` holds before each turn: what is left of the words decides the rest. Each way out is a law of it.
 use mathlib.Core.Path.{sym, ap, ◌∙◌}
+use native.Mathlib.Omega.{arith}
+use Rattle.std.proofs.lemmas.List.{take_all}
 use Rattle.refusal.specs.Outcome.{outcome_of}
 use Rattle.refusal.proofs.Outcomes.{handed-on}
 use Rattle.batch.proofs.ReadingLaws.{section-refused}
@@ -10,7 +12,7 @@ pub returns-in_err-samples : goal.returns-in_err-samples
 returns-in_err-samples c = handed-on _ _ c.from_residual.ensures.1 ∙ sym (section-refused _ _ c.in_err-samples.ensures)
 
 pub loop-record-init : goal.loop-record-init
-loop-record-init c = testing-begins _ _ _ c.in_ok-samples.ensures.0 c.in_ok-samples.ensures.1
+loop-record-init c = testing-begins _ _ _ (grind (arith, take_all, c.in_ok-samples.ensures.0)) (omega (arith, c.in_ok-samples.ensures.1))
 
 pub returns-in_err-record : goal.returns-in_err-record
 returns-in_err-record c =

@@ -25,7 +25,7 @@ returns-in_err-analytes c =
     let s = c.args.words.now in
     let i = c.loop-i.i in
     let read = c.from_words.ensures ∙ analyte-at s _ i (c.pairs-mark-items.ensures.each i (omega arith)) in
-    let none = was-none _ _ (sym (ap outcome_of c.in_err-analytes.was) ∙ read) in
+    let none = was-none (read_at s i) _ (sym (ap outcome_of c.in_err-analytes.was) ∙ grind (arith, read)) in
     rw (all-fails (λ k. is_given (read_at s k)) i readings (omega arith) (ap is_given none))
     (handed-on _ _ c.from_residual.ensures.1 ∙ ap (λ n. refused n) (none-at s i _ none))
 
@@ -35,7 +35,7 @@ loop-i-preserved c =
     let l = c.loop-i in
     let i = l.i in
     let read = c.from_words.ensures ∙ analyte-at c.args.words.now _ i (c.pairs-mark-items.ensures.each i (omega arith)) in
-    let was = was-analyte _ _ (sym (ap outcome_of c.in_ok-analytes.was) ∙ read) in
+    let was = was-analyte (read_at c.args.words.now i) _ (sym (ap outcome_of c.in_ok-analytes.was) ∙ grind (arith, read)) in
     let new = was.1 ∙ ap (λ r. analyte_of (or_missing r)) (sym was.0) in
     record {
       all = all_more _ i l.invariant.all (ap is_given was.0);
